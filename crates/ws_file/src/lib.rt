@@ -14,4 +14,4 @@ mod naming;
 pub use faults::OpenFault;
 pub use file_disk::FileDisk;
 pub use locking::{Access, Locked, Released, lock};
-pub use naming::{MadeFile, make_beside};
+pub use naming::{MadeFile, make_beside, make_name_last};

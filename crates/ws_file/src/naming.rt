@@ -1,4 +1,4 @@
-// A file is made beside another one, and takes its name in one step.
+// A file is made beside another one, takes its name in one step, and has it for good.
 ghost use Rattle.std.specs.Prelude.{◌≡◌, [], IfOk};
 ghost use Rattle.ws_file.specs.Files.{just_opened};
 
@@ -6,7 +6,7 @@ use crate::faults::OpenFault;
 use crate::file_disk::FileDisk;
 use std::fs::{self, File};
 use std::io::{self, ErrorKind};
-use std::path::PathBuf;
+use std::path::{Path, PathBuf};
 use std::process;
 
 /// The name of a file that was made beside the path, and has not its name yet.
@@ -39,36 +39,65 @@ fn made_anew(rt: &HostRuntime, name: &str) -> io::Result<File> {
 
 impl MadeFile {
     /// Gives the file the name, which no file has, in one step, and makes that last. `Taken` if a file has it, `Unwritable` if
-    /// a link has it that leads nowhere; the file that was made goes then, and after every other fault.
+    /// a link has it that leads nowhere. The file goes after a fault; a fault of the last sync leaves it under the name.
     pub fn publish(self, rt: &HostRuntime, path: &str) -> Result<(), OpenFault> {
-        let name = self.name.as_str();
-        let linked = fs::hard_link(rt, name, path);
-        let removed = fs::remove_file(rt, name);
-        match linked {
-            Err(error) if error.kind() == ErrorKind::AlreadyExists => {
-                return Err(taken(rt, path, error));
-            }
-            Err(error) => return Err(OpenFault::Unwritable(error)),
-            Ok(()) => {}
-        }
-        removed.map_err(OpenFault::Unwritable)?;
-        sync_folder(rt, path)
+        let linked = linked(rt, self.name.as_str(), path);
+        self.give_up(rt);
+        linked?.sync_all().map_err(OpenFault::Unwritable)
     }
 
     /// Gives the file the name in place of the file that has it, in one step, and makes that last. Who may read and write the
-    /// one may read and write the other. After a fault of the renaming the file that was made goes.
+    /// one may read and write the other. The file goes after a fault; a fault of the last sync leaves it under the name.
     pub fn replace(self, rt: &HostRuntime, path: &str) -> Result<(), OpenFault> {
-        let name = self.name.as_str();
-        if let Err(error) = take_over(rt, name, path) {
-            let _gone = fs::remove_file(rt, name);
-            return Err(OpenFault::Unwritable(error));
+        match renamed(rt, self.name.as_str(), path) {
+            Ok(folder) => folder.sync_all().map_err(OpenFault::Unwritable),
+            Err(fault) => {
+                self.give_up(rt);
+                Err(fault)
+            }
         }
-        sync_folder(rt, path)
     }
 
     /// The file goes.
     pub fn give_up(self, rt: &HostRuntime) {
         let _gone = fs::remove_file(rt, self.name.as_str());
+    }
+}
+
+/// Makes the name of the file at the path last; if the path is a link, that of the file to which it leads.
+pub fn make_name_last(rt: &HostRuntime, path: &str) -> Result<(), OpenFault> {
+    let folder = folder_of_file(rt, path)?;
+    folder.sync_all().map_err(OpenFault::Unwritable)
+}
+
+// The folder that has the name of the file itself.
+fn folder_of_file(rt: &HostRuntime, path: &str) -> Result<File, OpenFault> {
+    let named = fs::symlink_metadata(rt, path).map_err(OpenFault::Unwritable)?;
+    if !named.is_symlink() {
+        return folder_of(rt, path);
+    }
+    let file = Path::new(path)
+        .canonicalize(rt)
+        .map_err(OpenFault::Unwritable)?;
+    folder_of(rt, file.as_str())
+}
+
+// The folder of the path, once the path is a name of the file too. All that takes memory is done before.
+fn linked(rt: &HostRuntime, name: &str, path: &str) -> Result<File, OpenFault> {
+    let folder = folder_of(rt, path)?;
+    match fs::hard_link(rt, name, path) {
+        Ok(()) => Ok(folder),
+        Err(error) if error.kind() == ErrorKind::AlreadyExists => Err(taken(rt, path, error)),
+        Err(error) => Err(OpenFault::Unwritable(error)),
+    }
+}
+
+// The folder of the path, once the file has the path for its name. All that takes memory is done before.
+fn renamed(rt: &HostRuntime, name: &str, path: &str) -> Result<File, OpenFault> {
+    let folder = folder_of(rt, path)?;
+    match take_over(rt, name, path) {
+        Ok(()) => Ok(folder),
+        Err(error) => Err(OpenFault::Unwritable(error)),
     }
 }
 
@@ -86,12 +115,10 @@ fn take_over(rt: &HostRuntime, name: &str, path: &str) -> io::Result<()> {
     fs::rename(rt, name, path)
 }
 
-// Makes last which names the folder of the path has.
-fn sync_folder(rt: &HostRuntime, path: &str) -> Result<(), OpenFault> {
+// The folder that has the names beside the path; a sync of it makes them last.
+fn folder_of(rt: &HostRuntime, path: &str) -> Result<File, OpenFault> {
     let mut folder = PathBuf::from_str(rt.alloc(), path)?;
     folder.pop();
     let name = folder.as_str();
-    let file = File::open(rt, if name.is_empty() { "." } else { name });
-    file.and_then(|folder| folder.sync_all())
-        .map_err(OpenFault::Unwritable)
+    File::open(rt, if name.is_empty() { "." } else { name }).map_err(OpenFault::Unwritable)
 }

@@ -10,7 +10,7 @@ use crate::faults::{Fault, not_read};
 use crate::logs::{OpenLog, RestingLog, from_gate};
 use std::alloc::Global;
 use std::time::Duration;
-use ws_file::{Access, FileDisk, Locked, lock};
+use ws_file::{Access, FileDisk, Locked, lock, make_name_last};
 use ws_seal::{Texts, read_log, read_tail};
 
 /// A log in hand, and the texts that were read of it, in order.
@@ -29,16 +29,22 @@ pub enum Reopened {
     Another(Opened),
 }
 
+// The most texts of a log to which nothing was appended: the head, and that of the command which made it.
+const FIRST_TEXTS: u64 = 2;
+
 /// Opens the log in the file: locks it, waiting as long as it may, makes last what it has, and reads and checks all, the head
-/// first. It writes nothing.
+/// first. It writes nothing. If it is opened for a change, its name lasts too.
 pub fn open(rt: &HostRuntime, path: &str, access: Access, wait: Duration) -> Result<Opened, Fault>
     ensures { IfOk result (λ opened. IsFresh opened.log) }
 {
     let locked = lock(rt, path, access, wait)?;
-    read_whole(rt.alloc(), locked)
+    let opened = read_whole(rt.alloc(), locked)?;
+    keep_name(rt, path, access, &opened.log)?;
+    Ok(opened)
 }
 
-/// Opens again the log that this process let go of, and reads what is new; another file that has its path by now is read whole.
+/// Opens again the log that this process let go of, and reads what is new; another file that has its path by now is read whole. If
+/// it is opened for a change, its name lasts too.
 pub fn reopen(
     rt: &HostRuntime,
     resting: RestingLog,
@@ -50,9 +56,22 @@ pub fn reopen(
 {
     let locked = lock(rt, path, access, wait)?;
     if locked.is(&resting.released)? {
-        return Ok(Reopened::Same(read_new(rt.alloc(), locked, resting)?));
+        let opened = read_new(rt.alloc(), locked, resting)?;
+        keep_name(rt, path, access, &opened.log)?;
+        return Ok(Reopened::Same(opened));
     }
-    Ok(Reopened::Another(read_whole(rt.alloc(), locked)?))
+    let opened = read_whole(rt.alloc(), locked)?;
+    keep_name(rt, path, access, &opened.log)?;
+    Ok(Reopened::Another(opened))
+}
+
+// Makes last the name of a log that is opened for a change, if nothing may have been appended to it: the process that gave the name
+// may have been killed before it did so. Whoever appended first has come through here, or made the log.
+fn keep_name(rt: &HostRuntime, path: &str, access: Access, log: &OpenLog) -> Result<(), Fault> {
+    if access == Access::Change && log.count() <= FIRST_TEXTS {
+        make_name_last(rt, path)?;
+    }
+    Ok(())
 }
 
 fn read_whole(alloc: Global, locked: Locked) -> Result<Opened, Fault>

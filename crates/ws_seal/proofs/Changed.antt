@@ -8,7 +8,7 @@ use Rattle.base_roll.specs.Format.{framed, opened, records, front, AreShort}
 use Rattle.base_roll.specs.Rolls.{BeginsWith, IsClosed, gate_of}
 use Rattle.base_roll.proofs.Frames.{frames_apart, length_framed, same_parts}
 use Rattle.ws_seal.specs.Seals.{mark, sealed, payloads, last_mark}
-use Rattle.ws_seal.specs.Logs.{HasTexts, IsHidden, IsLog, IsLogRead, IsRead, opening}
+use Rattle.ws_seal.specs.Logs.{BeginsSealed, HasTexts, IsHidden, IsLog, IsLogRead, IsRead, opening}
 use Rattle.ws_seal.specs.Changes.{Collision, IsLastGate, IsOtherAt}
 use Rattle.ws_seal.proofs.Sealing.{length_mark, length_sealed, text_of_sealed}
 
@@ -171,8 +171,10 @@ told m (t ∷ []) rest [] back was is [] r e f changed l not_last small short cl
 told m (t ∷ v ∷ texts) rest [] back was is [] r e f changed l not_last small short closed free =
     let gate : 1 ≡ was = first_of 1 was ((framed (sealed m t) ++ records (payloads (mark m t) (v ∷ texts))) ++ rest) back e in
     let others_ : (framed (sealed m t) ++ records (payloads (mark m t) (v ∷ texts))) ++ rest ≡ back = ap (drop 1) e in
-    let stands : back ≡ framed (sealed m t) ++ (1 ∷ ((framed (sealed (mark m t) v) ++ records (payloads (mark (mark m t) v) texts)) ++ rest)) = sym others_ ∙ append_assoc (framed (sealed m t)) (records (payloads (mark m t) (v ∷ texts))) rest in
-    absurd (free (is, back, sym f, (λ i. changed (sym gate ∙ sym i)), record { text = t; more = (framed (sealed (mark m t) v) ++ records (payloads (mark (mark m t) v) texts)) ++ rest; short = small.0; stands = stands }))
+    let tail : List ℕ = records (payloads (mark (mark m t) v) texts) in
+    let stands : back ≡ framed (sealed m t) ++ (1 ∷ ((framed (sealed (mark m t) v) ++ tail) ++ rest)) = sym others_ ∙ append_assoc (framed (sealed m t)) (records (payloads (mark m t) (v ∷ texts))) rest in
+    let next : BeginsSealed (mark m t) ((framed (sealed (mark m t) v) ++ tail) ++ rest) = record { text = v; more = tail ++ rest; short = small.1.0; stands = append_assoc (framed (sealed (mark m t) v)) tail rest } in
+    absurd (free (is, back, sym f, (λ i. changed (sym gate ∙ sym i)), record { text = t; more = (framed (sealed (mark m t) v) ++ tail) ++ rest; short = small.0; stands = stands; next = next }))
 told m (t ∷ texts) rest [] back was is (u ∷ others) r e f changed l not_last small short closed free =
     absurd (changed (sym (first_of 1 was ((framed (sealed m t) ++ records (payloads (mark m t) texts)) ++ rest) back e) ∙ sym (first_of is 1 back ((framed (sealed m u) ++ records (payloads (mark m u) others)) ++ r) f)))
 told m (t ∷ texts) rest (g ∷ front) back was is [] r e f changed l not_last small short closed free =

@@ -41,19 +41,27 @@ pub record IsHeld (before m : List ℕ) (texts : List (List ℕ)) (disk : State)
 
 -- ---- damage
 
--- After a closed gate a record stands whole, with the mark that it ought to have, and an open gate after it. No append leaves
--- that.
+-- the bytes begin with the payload of a text after the mark, whole
+pub record BeginsSealed (m bytes : List ℕ) : Type 0 where
+  pub text : List ℕ
+  pub more : List ℕ
+  pub short : length (sealed m text) < 2 ^ 32
+  pub stands : bytes ≡ framed (sealed m text) ++ more
+
+-- After a closed gate two records stand whole, each with the mark that it ought to have, and an open gate between them. No append
+-- leaves that: it writes one record, whose own gate a crash may leave with any byte.
 pub record IsHiddenAfter (m after : List ℕ) : Type 0 where
   pub text : List ℕ
   pub more : List ℕ
   pub short : length (sealed m text) < 2 ^ 32
   pub stands : after ≡ framed (sealed m text) ++ (1 ∷ more)
+  pub next : BeginsSealed (mark m text) more
 
--- the rest begins with a closed gate that hides a record
+-- the rest begins with a closed gate that hides records
 abbrev pub IsHidden : List ℕ → List ℕ → Type 0
 IsHidden m rest = (gate : ℕ) × (after : List ℕ) × (rest ≡ gate ∷ after) × (gate ≡ 1 → ⊥) × IsHiddenAfter m after
 
--- What was read: these texts, no record hidden after their gate, its place, and the mark of the last.
+-- What was read: these texts, no records hidden after their gate, its place, and the mark of the last.
 pub record IsRead (before m bytes : List ℕ) (texts : List (List ℕ)) (gate : ℕ) (last : List ℕ) : Type 0 where
   pub rest : List ℕ
   pub begins : BeginsWith before (payloads m texts) bytes rest
@@ -62,7 +70,7 @@ pub record IsRead (before m bytes : List ℕ) (texts : List (List ℕ)) (gate : 
   pub gate_is : gate ≡ gate_of before (payloads m texts)
   pub mark_is : last ≡ last_mark m texts
 
--- After these texts the gate at the place is missing, or it is open and no record stands after it, or it hides one.
+-- After these texts the gate at the place is missing, or it is open and no record stands after it, or it hides records.
 pub record BreaksAt (before m bytes : List ℕ) (place : ℕ) : Type 0 where
   pub texts : List (List ℕ)
   pub rest : List ℕ

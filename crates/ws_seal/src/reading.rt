@@ -3,7 +3,7 @@ ghost use Rattle.std.specs.Prelude.{◌≡◌, ◌≤◌, ◌++◌, ◌∷◌, [
 ghost use Rattle.base_devices.specs.States.{IsSettled};
 ghost use Rattle.base_roll.specs.Histories.{IsReading};
 ghost use Rattle.ws_seal.specs.Answers.{AfterTold, DiskTold, GateTold, LogTold, TailTold};
-ghost use Rattle.ws_seal.specs.Logs.{HasGateAt, IsHiddenAfter};
+ghost use Rattle.ws_seal.specs.Logs.{BeginsSealed, HasGateAt, IsHiddenAfter};
 
 use crate::seals::{Mark, unseal};
 use crate::types::{Damage, ReadFault, Texts};
@@ -90,7 +90,7 @@ fn texts_after(
     }
 }
 
-// What was read up to a closed gate, unless a record is hidden after it.
+// What was read up to a closed gate, unless records are hidden after it.
 fn at_gate(texts: Vec<Vec<u8>>, gate: usize, mark: Mark, after: &[u8]) -> Result<Texts, ReadFault>
     ensures { GateTold mark.digits after.now (map (λ v. v.items) texts.items) gate result }
 {
@@ -100,8 +100,8 @@ fn at_gate(texts: Vec<Vec<u8>>, gate: usize, mark: Mark, after: &[u8]) -> Result
     Ok(Texts { texts, gate, mark })
 }
 
-// Whether a record is hidden: it stands after the closed gate whole, with the mark that it ought to have, and an open gate
-// after it.
+// Whether records are hidden: two stand after the closed gate whole, each with the mark that it ought to have, and an open gate
+// between them.
 fn hides(mark: &Mark, after: &[u8]) -> bool
     ensures hidden { result ≡ true → IsHiddenAfter mark.now.digits after.now }
     ensures not_hidden { result ≡ false → IsHiddenAfter mark.now.digits after.now → ⊥ }
@@ -109,12 +109,26 @@ fn hides(mark: &Mark, after: &[u8]) -> bool
     let Some((payload, more)) = split_frame(after) else {
         return false;
     };
-    let [byte, ..] = more else {
+    let [byte, next @ ..] = more else {
         return false;
     };
     if *byte != 1 {
         return false;
     }
+    let Some((found, _text)) = unseal(&mark.digits, payload) else {
+        return false;
+    };
+    begins_sealed(&found, next)
+}
+
+// Whether the bytes begin with the payload of a text after the mark, whole.
+fn begins_sealed(mark: &Mark, bytes: &[u8]) -> bool
+    ensures yes { result ≡ true → BeginsSealed mark.now.digits bytes.now }
+    ensures no { result ≡ false → BeginsSealed mark.now.digits bytes.now → ⊥ }
+{
+    let Some((payload, _more)) = split_frame(bytes) else {
+        return false;
+    };
     let Some(_found) = unseal(&mark.digits, payload) else {
         return false;
     };

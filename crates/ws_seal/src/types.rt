@@ -14,7 +14,7 @@ pub struct Texts {
 /// What is damaged.
 #[derive(Clone, Copy, Debug, PartialEq, Eq)]
 pub enum Damage {
-    /// The gate at the place: it is missing, or it is open and no whole record stands after it, or it hides one. 0: no whole head.
+    /// The gate at the place: it is missing, or it is open and no whole record stands after it, or it hides records. 0: no whole head.
     At(u64),
     /// The record of this number is not as it was written. The head has the number 0, and what is read after a mark begins with 0.
     NotAsWritten(u64),

@@ -76,14 +76,17 @@ pub fn fed_by(
     };
     match read {
         Ok(fed) => Ok(Ok(Some(fed))),
-        Err(error) => {
-            if error.kind() == ErrorKind::OutOfMemory {
-                return Err(Memory);
-            }
-            let why = reason(alloc, &error)?;
-            Ok(Err(format!(in alloc; "cannot read standard input: {why}")?))
-        }
+        Err(error) => Ok(Err(cannot_read(alloc, &error)?)),
     }
+}
+
+/// That standard input cannot be read, in words. It is refused for want of memory, also if that is why.
+pub fn cannot_read(alloc: Global, error: &io::Error) -> Result<String, Memory> {
+    if error.kind() == ErrorKind::OutOfMemory {
+        return Err(Memory);
+    }
+    let why = reason(alloc, error)?;
+    Ok(format!(in alloc; "cannot read standard input: {why}")?)
 }
 
 // Whether the line is `load NAME -`.

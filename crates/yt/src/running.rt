@@ -15,22 +15,26 @@ use ws_words::{Asked, Words, file_first, read_words, wants_json};
 
 /// Does what the words ask for. It is refused only for want of memory.
 pub fn run(rt: &HostRuntime) -> Result<Status, Memory> {
-    let words = words_of(rt)?;
+    let given = words_of(rt)?;
+    let words = given.words.as_slice();
+    if let Some(number) = given.unread {
+        let what = format!(in rt.alloc(); "word {number} is not UTF-8")?;
+        return wrong(rt, words, what, String::new(rt.alloc()));
+    }
     let time = said_time(rt)?;
     if let Time::Wrong = time {
         let what = "YT_TIME is no time of the form 2026-11-30T09:00:00Z";
-        return wrong(
-            rt,
-            words.as_slice(),
-            text(rt.alloc(), what)?,
-            String::new(rt.alloc()),
-        );
+        return wrong(rt, words, text(rt.alloc(), what)?, String::new(rt.alloc()));
     }
-    match read_words(rt.alloc(), words.as_slice()) {
+    run_words(rt, words, &time)
+}
+
+fn run_words(rt: &HostRuntime, words: &[String], time: &Time) -> Result<Status, Memory> {
+    match read_words(rt.alloc(), words) {
         Ok(Asked::Help) => tell_text(rt, help_text(rt.alloc(), None)?.as_str()),
         Ok(Asked::Version) => tell_text(rt, VERSION),
-        Ok(Asked::Work(work)) => begin(rt, words.as_slice(), &work, &time),
-        Err(refusal) => wrong_words(rt, words.as_slice(), refusal),
+        Ok(Asked::Work(work)) => begin(rt, words, &work, time),
+        Err(refusal) => wrong_words(rt, words, refusal),
     }
 }
 

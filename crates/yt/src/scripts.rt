@@ -1,11 +1,11 @@
 //! The lines of standard input, done one by one.
 
-use crate::feeding::Input;
-use crate::telling::{form_of, tell};
+use crate::feeding::{Input, cannot_read};
+use crate::telling::{form_of, tell, tell_fault};
 use crate::words::Time;
 use def_memory::Memory;
 use std::alloc::Global;
-use std::io::{IsTerminal, Write};
+use std::io::{self, IsTerminal, Write};
 use ws_fault::Status;
 use ws_grammar::lines_of;
 use ws_reply::{Form, Kind, Reply};
@@ -72,8 +72,9 @@ impl Script {
         if self.is_terminal {
             let _ = rt.stdout().write_all(b"yt> ");
         }
-        let Ok(raw) = input.line(rt.alloc()) else {
-            return Ok(Next::Stop(Status::NoInput));
+        let raw = match input.line(rt.alloc()) {
+            Ok(raw) => raw,
+            Err(error) => return self.unread(rt, &error),
         };
         if raw.is_empty() {
             return Ok(Next::End);
@@ -83,8 +84,16 @@ impl Script {
         let raw = self.without_mark(raw.as_slice());
         match self.fed(rt.alloc(), input, raw)? {
             Ok(fed) => self.done(rt, time, session, raw, fed.as_ref()),
-            Err(status) => Ok(Next::Stop(status)),
+            Err(error) => self.unread(rt, &error),
         }
+    }
+
+    // Tells that a line could not be read, and stops.
+    fn unread(&self, rt: &HostRuntime, error: &io::Error) -> Result<Next, Memory> {
+        let words = cannot_read(rt.alloc(), error)?;
+        let hint = String::new(rt.alloc());
+        let status = tell_fault(rt, self.form, Status::NoInput, words, hint)?;
+        Ok(Next::Stop(status))
     }
 
     // The line without a byte order mark in front, if it is the first, and without its line feed.
@@ -102,7 +111,7 @@ impl Script {
         alloc: Global,
         input: &mut Input,
         raw: &[u8],
-    ) -> Result<Result<Option<Fed>, Status>, Memory> {
+    ) -> Result<io::Result<Option<Fed>>, Memory> {
         let text = String::from_utf8_lossy(alloc, raw)?;
         let count = lines_of(text.as_str());
         if count == 0 {
@@ -113,7 +122,7 @@ impl Script {
                 self.behind = fed.lines;
                 Ok(Ok(Some(fed)))
             }
-            Err(_) => Ok(Err(Status::NoInput)),
+            Err(error) => Ok(Err(error)),
         }
     }
 

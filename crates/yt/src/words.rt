@@ -2,29 +2,60 @@
 
 use def_memory::Memory;
 use std::alloc::{AllocError, Global};
-use std::env::{self, VarError};
-use std::io::ErrorKind;
+use std::env::{self, Env, FillError, VarError};
 use std::time::{SystemTime, UNIX_EPOCH};
 use ws_grammar::is_time;
 use ws_words::{Words, curator_of, time_of};
 
-/// The words after the program's name; one empty word if one of them is not UTF-8. It is refused only for want of memory.
-pub fn words_of(rt: &HostRuntime) -> Result<Vec<String>, Memory> {
-    let mut words = Vec::new(rt.alloc());
-    match env::args(rt) {
-        Ok(all) => {
-            for word in all.skip(1) {
-                words.push(word)?;
-            }
-        }
-        Err(error) => {
-            if error.kind() == ErrorKind::OutOfMemory {
-                return Err(Memory);
-            }
-            words.push(String::new(rt.alloc()))?;
+/// The words after the program's name.
+#[derive(Drop)]
+pub struct Given {
+    pub words: Vec<String>,
+    /// The number of the first that is not UTF-8, from 1. In `words` it is as much of it as can be read.
+    pub unread: Option<usize>,
+}
+
+/// The words after the program's name. It is refused only for want of memory.
+pub fn words_of(rt: &HostRuntime) -> Result<Given, Memory> {
+    let mut given = Given {
+        words: Vec::new(rt.alloc()),
+        unread: None,
+    };
+    for number in 1..usize::MAX {
+        match word_bytes(rt, number)? {
+            Some(bytes) => given.add(rt.alloc(), number, bytes.as_slice())?,
+            None => break,
         }
     }
-    Ok(words)
+    Ok(given)
+}
+
+// The bytes of a word, by its number; None after the last.
+fn word_bytes(rt: &HostRuntime, number: usize) -> Result<Option<Vec<u8>>, AllocError> {
+    let mut room = Vec::new(rt.alloc());
+    let mut most = 256usize;
+    for _ in 0..usize::BITS {
+        room.resize(most, 0)?;
+        match rt.arg(number, room.as_mut_slice()) {
+            Ok(size) => {
+                room.truncate(size);
+                return Ok(Some(room));
+            }
+            Err(FillError::NotPresent) => return Ok(None),
+            Err(FillError::TooLong) => most = most.saturating_add(most),
+        }
+    }
+    Err(AllocError)
+}
+
+impl Given {
+    fn add(&mut self, alloc: Global, number: usize, bytes: &[u8]) -> Result<(), AllocError> {
+        if str::from_utf8(bytes).is_err() && self.unread.is_none() {
+            self.unread = Some(number);
+        }
+        self.words.push(String::from_utf8_lossy(alloc, bytes)?)?;
+        Ok(())
+    }
 }
 
 // A variable of the environment; empty if it is not set, or no text.
@@ -61,14 +92,23 @@ pub enum Time {
 
 /// What `YT_TIME` says. It is refused only for want of memory.
 pub fn said_time(rt: &HostRuntime) -> Result<Time, Memory> {
-    let set = variable(rt, "YT_TIME")?;
+    match env::var(rt, "YT_TIME") {
+        Ok(set) => Ok(time_in(set)),
+        Err(VarError::NotPresent) => Ok(Time::Clock),
+        Err(VarError::NotUnicode) => Ok(Time::Wrong),
+        Err(VarError::OutOfMemory) => Err(Memory),
+    }
+}
+
+// What is said by the variable, which may be empty.
+fn time_in(set: String) -> Time {
     if set.is_empty() {
-        return Ok(Time::Clock);
+        return Time::Clock;
     }
     if is_time(set.as_str()) {
-        return Ok(Time::Fixed(set));
+        return Time::Fixed(set);
     }
-    Ok(Time::Wrong)
+    Time::Wrong
 }
 
 impl Time {
