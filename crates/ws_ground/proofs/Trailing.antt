@@ -101,9 +101,9 @@ same_first g h s =
     ap (λ (D : List Fact). before (map change_of h.trail.items) D) s.facts
     ∙ ap (λ (l : List Write). before (map change_of l) g.facts) s.trail
 
--- What is behind a list, and the list before it.
-behind : (ws vs : List Write) → drop (length ws) (ws ++ vs) ≡ vs
-behind ws vs =
+-- What follows a list, and the list before it.
+following : (ws vs : List Write) → drop (length ws) (ws ++ vs) ≡ vs
+following ws vs =
     drop-append-le (length ws) ws vs (omega arith)
     ∙ ap (λ (l : List Write). l ++ vs) (drop_all (length ws) ws (omega arith))
 
@@ -116,7 +116,7 @@ back_same g h i p b = record {
   facts =
       b.facts
       ∙ ap (λ (l : List Write). before (map change_of (drop (length g.trail.items) l)) h.facts) p.longer
-      ∙ ap (λ (l : List Write). before (map change_of l) h.facts) (behind g.trail.items p.more)
+      ∙ ap (λ (l : List Write). before (map change_of l) h.facts) (following g.trail.items p.more)
       ∙ p.undone;
   trail =
       b.trail

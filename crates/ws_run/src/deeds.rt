@@ -86,7 +86,7 @@ fn swap(
     settle(alloc, run, ground, thread, first, news)
 }
 
-// Draws so many new unknowns.
+// Draws that number of new unknowns.
 #[tactic(auto, using(ws_ground::proofs::Trailing::none_made, ws_ground::proofs::Trailing::more_made))]
 fn draw(
     alloc: Global,

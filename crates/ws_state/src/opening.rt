@@ -10,12 +10,14 @@ use std::collections::BTreeMap;
 use ws_names::Names;
 use ws_run::Ground;
 
-/// Why a head cannot be opened: want of memory; a tuple has an unknown that the head does not list; or an unknown is listed twice.
+/// Why a head cannot be opened: want of memory; a tuple has an unknown that the head does not list; an unknown is listed twice; or
+/// an update waits under a number that is given twice, or that is above the greatest.
 #[derive(Clone, Copy, Debug, PartialEq, Eq)]
 pub enum OpenFault {
     Memory,
     NotListed(Null),
     ListedTwice(Null),
+    NotGiven(u32),
 }
 
 impl From<Memory> for OpenFault {
@@ -44,6 +46,8 @@ impl State {
             first_in_force,
             first_names: world.ground.names.len(),
             replays: 0,
+            latest: None,
+            redeclared: false,
             last: head.last,
             world,
         };
@@ -52,18 +56,32 @@ impl State {
     }
 
     // The updates that wait are held, and wait.
-    fn hold(&mut self, alloc: Global, waits: HeadWaitingList) -> Result<(), Memory> {
+    fn hold(&mut self, alloc: Global, waits: HeadWaitingList) -> Result<(), OpenFault> {
         for waiting in waits.into_vec() {
+            let number = waiting.update.number;
             self.hold_one(alloc, waiting)?;
+            self.give_place(number)?;
         }
         Ok(())
     }
 
+    // The update that was held last has this number, which was given to no other.
+    fn give_place(&mut self, number: u32) -> Result<(), OpenFault> {
+        if self.last < number {
+            return Err(OpenFault::NotGiven(number));
+        }
+        match self
+            .places
+            .insert(number, self.held.len().saturating_sub(1))
+        {
+            Ok(None) => Ok(()),
+            Ok(Some(_)) => Err(OpenFault::NotGiven(number)),
+            Err(_) => Err(OpenFault::Memory),
+        }
+    }
+
     fn hold_one(&mut self, alloc: Global, waiting: HeadWaiting) -> Result<(), Memory> {
         let place = self.held.len();
-        if self.places.insert(waiting.update.number, place).is_err() {
-            return Err(Memory);
-        }
         self.world.wait(place, waiting.answers.copy(alloc)?)?;
         let HeadWaiting {
             update,

@@ -1,12 +1,16 @@
 //! The state as it was, to which it can go back after lines that were only tried.
+ghost use Rattle.std.specs.Prelude.{◌≡◌, take, OnOk, IfOk};
+ghost use Rattle.ws_state.specs.Stands.{what_stands, what_stood};
+ghost use Rattle.ws_state.specs.Returns.{IsPlaceIn, IsPointOf, IsBackAt, LeadsBack, RunsAddUp};
 
-use crate::states::State;
-use crate::worlds::WaitingList;
+use crate::latest::keep;
+use crate::states::{Event, HeldList, State};
+use crate::worlds::{WaitingList, World, renew};
 use base_types::{List, MappingList, Memory, TryCopy};
 use std::alloc::Global;
+use std::collections::BTreeMap;
 use std::mem;
 use ws_lines::{GivenList, TableList};
-use ws_names::Places;
 use ws_run::Mark;
 
 /// What a state is to go back to. It is of use for the state that gave it, as long as that goes back to no earlier one.
@@ -15,10 +19,11 @@ pub struct Point {
     tables: TableList,
     mappings: MappingList,
     last: u32,
-    replays: u32,
+    pub(crate) replays: u32,
     held: Vec<HeldBefore>,
     forgotten: Vec<bool>,
-    world: WorldBefore,
+    waiting: WaitingList,
+    pub(crate) world: WorldBefore,
 }
 
 // What was held of an update: whether it was undone, how many places it had, and its answers of the last fold.
@@ -31,17 +36,18 @@ struct HeldBefore {
 
 // What stood.
 #[derive(Drop)]
-struct WorldBefore {
-    ground: Mark,
-    in_force: List<u16>,
-    gone: List<u16>,
-    order: usize,
-    waiting: WaitingList,
+pub(crate) struct WorldBefore {
+    pub ground: Mark,
+    pub in_force: List<u16>,
+    pub gone: List<u16>,
+    pub order: usize,
 }
 
 impl State {
     /// The state as it is now, to go back to. It is refused only for want of memory.
-    pub fn point(&self, alloc: Global) -> Result<Point, Memory> {
+    pub fn point(&self, alloc: Global) -> Result<Point, Memory>
+        ensures place { IfOk result (λ point. IsPointOf self.now point) }
+    {
         Ok(Point {
             tables: self.tables.copy(alloc)?,
             mappings: self.mappings.copy(alloc)?,
@@ -49,7 +55,8 @@ impl State {
             replays: self.replays,
             held: self.held_now(alloc)?,
             forgotten: self.forgotten_now(alloc)?,
-            world: self.world_now(alloc)?,
+            waiting: self.world.waiting.copy(alloc)?,
+            world: self.world.kept(alloc)?,
         })
     }
 
@@ -73,19 +80,13 @@ impl State {
         Ok(all)
     }
 
-    fn world_now(&self, alloc: Global) -> Result<WorldBefore, Memory> {
-        Ok(WorldBefore {
-            ground: self.world.ground.mark(),
-            in_force: self.world.in_force.copy(alloc)?,
-            gone: self.world.gone.copy(alloc)?,
-            order: self.world.order.len(),
-            waiting: self.world.waiting.copy(alloc)?,
-        })
-    }
-
     /// Takes back all that was done since the point. What was only run is taken back as it was run; if lines were replayed, they are
     /// replayed again. It is refused only for want of memory; the state is then of no use.
-    pub fn back_to(&mut self, alloc: Global, point: Point) -> Result<(), Memory> {
+    #[tactic(auto, using(crate::proofs::Returning::led_back, crate::proofs::Returning::replayed_since))]
+    pub fn back_to(&mut self, alloc: Global, point: Point) -> Result<(), Memory>
+        ensures back { OnOk result (LeadsBack point self.old self.new) }
+        ensures fold { OnOk result (what_stood self.new ≡ what_stood self.old) }
+    {
         let Point {
             tables,
             mappings,
@@ -93,64 +94,96 @@ impl State {
             replays,
             held,
             forgotten,
+            waiting,
             world,
         } = point;
-        self.tables = tables;
-        self.mappings = mappings;
+        keep(&mut self.latest, None);
+        renew(&mut self.tables, tables);
+        renew(&mut self.mappings, mappings);
         self.last = last;
-        self.held_back_to(alloc, held);
-        self.events_back_to(&forgotten);
+        held_back_to(alloc, &mut self.held, &mut self.places, held);
+        events_back_to(&mut self.events, &forgotten);
         if self.replays == replays {
-            return self.world_back_to(world);
+            renew(&mut self.world.waiting, waiting);
+            self.world.back_to(alloc, world)?;
+            return Ok(());
         }
-        drop(world);
-        self.replay(alloc)
-    }
-
-    fn held_back_to(&mut self, alloc: Global, before: Vec<HeldBefore>) {
-        for _ in before.len()..self.held.len() {
-            if let Some(held) = self.held.pop() {
-                self.places.remove(&held.update.number);
-            }
-        }
-        for (held, before) in self.held.iter_mut().zip(before) {
-            held.is_undone = before.is_undone;
-            held.first = before.first;
-            shorten(alloc, &mut held.places, before.places);
-        }
-    }
-
-    fn events_back_to(&mut self, forgotten: &[bool]) {
-        self.events.truncate(forgotten.len());
-        for (event, is_forgotten) in self.events.iter_mut().zip(forgotten) {
-            event.is_forgotten = *is_forgotten;
-        }
-    }
-
-    fn world_back_to(&mut self, before: WorldBefore) -> Result<(), Memory> {
-        self.world.ground.back_to(before.ground)?;
-        let WorldBefore {
-            in_force,
-            gone,
-            order,
-            waiting,
-            ..
-        } = before;
-        self.world.in_force = in_force;
-        self.world.gone = gone;
-        self.world.waiting = waiting;
-        for _ in order..self.world.order.len() {
-            drop(self.world.order.pop());
-        }
+        drop((waiting, world));
+        self.replay(alloc)?;
         Ok(())
     }
 }
 
-// The first so many places.
-fn shorten(alloc: Global, places: &mut Places, count: usize) {
-    if count < places.len() {
-        let mut kept = mem::replace(places, Places::new(alloc)).into_vec();
-        kept.truncate(count);
-        *places = Places::from_vec(kept);
+/// What has gone on by runs, and goes on from there by runs, has gone on by runs. So all lines since a point are taken back, if none
+/// of them replays.
+pub fn runs_add_up()
+    ensures { RunsAddUp }
+{}
+
+fn held_back_to(
+    alloc: Global,
+    held: &mut HeldList,
+    places: &mut BTreeMap<u32, usize>,
+    before: Vec<HeldBefore>,
+) {
+    for _ in before.len()..held.len() {
+        if let Some(held) = held.pop() {
+            places.remove(&held.update.number);
+        }
     }
+    for (held, before) in held.iter_mut().zip(before) {
+        held.is_undone = before.is_undone;
+        held.first = before.first;
+        shorten(alloc, &mut held.places, before.places);
+    }
+}
+
+fn events_back_to(events: &mut Vec<Event>, forgotten: &[bool]) {
+    events.truncate(forgotten.len());
+    for (event, is_forgotten) in events.iter_mut().zip(forgotten) {
+        event.is_forgotten = *is_forgotten;
+    }
+}
+
+impl World {
+    /// What stands now, to go back to. It is refused only for want of memory.
+    pub fn kept(&self, alloc: Global) -> Result<WorldBefore, Memory>
+        ensures place { IfOk result (λ before. IsPlaceIn self.now before) }
+    {
+        let in_force = self.in_force.copy(alloc)?;
+        let gone = self.gone.copy(alloc)?;
+        Ok(WorldBefore {
+            ground: self.ground.mark(),
+            in_force,
+            gone,
+            order: self.order.len(),
+        })
+    }
+
+    /// Takes back what was run since then, but for what waits. It is refused only for want of memory.
+    pub fn back_to(&mut self, alloc: Global, before: WorldBefore) -> Result<(), Memory>
+        ensures back { OnOk result
+            (IsBackAt before (what_stands self.old) (what_stands self.new)) }
+    {
+        self.ground.back_to(before.ground)?;
+        let WorldBefore {
+            in_force,
+            gone,
+            order,
+            ..
+        } = before;
+        self.in_force = in_force;
+        self.gone = gone;
+        shorten(alloc, &mut self.order, order);
+        Ok(())
+    }
+}
+
+// The first so many items.
+fn shorten<T: Drop>(alloc: Global, list: &mut List<T>, count: usize)
+    ensures first { list.new.items ≡ take count list.old.items }
+{
+    let mut kept = mem::replace(list, List::new(alloc)).into_vec();
+    kept.truncate(count);
+    *list = List::from_vec(kept);
 }

@@ -1,12 +1,18 @@
 //! What is undone and done again: all lines that count are replayed.
+ghost use Rattle.std.specs.Prelude.{◌≡◌, None, OnOk, IfOk};
+ghost use Rattle.ws_state.specs.Stands.{what_stands, what_stood, GoesOn};
+ghost use Rattle.ws_state.specs.Returns.{IsBackAt, TakesBack};
 
-use crate::states::{Event, Said, State, Told};
+use crate::latest::{Latest, keep, take_latest};
+use crate::states::{Event, HeldList, Said, State, Told};
 use crate::visible::{Visible, came_between, visible_of};
-use crate::worlds::{StandingList, Status, WaitingList};
-use base_types::{List, Memory, NumberList, TryCopy, TupleList, Write, WriteList};
+use crate::worlds::{StandingList, Status, Waiting, WaitingList, World, renew, wait_no_more};
+use base_types::{List, MappingList, Memory, NumberList, TryCopy, TupleList, Write, WriteList};
 use std::alloc::Global;
+use std::collections::BTreeMap;
 use std::mem;
 use ws_lines::GivenList;
+use ws_run::Reason;
 
 /// What a replay changed: the tuples that came and went, by names and in order, and each other update that stands otherwise than before
 /// or wrote something else.
@@ -29,56 +35,86 @@ pub struct Again {
 pub type AgainList = List<Again>;
 
 impl State {
-    /// The lines of these updates and their answers do not count any more.
-    pub(crate) fn undo(&mut self, alloc: Global, numbers: &NumberList) -> Result<Told, Memory> {
-        let before = self.before(alloc)?;
-        self.set_undone(numbers, true);
-        self.replay_and_tell(alloc, before, numbers)
+    /// The lines of these updates and their answers do not count any more. What the update did that was said last is taken back; for
+    /// others all is replayed.
+    #[tactic(auto, using(crate::proofs::Returning::latest_taken_back, crate::proofs::Returning::another_taken_back))]
+    pub(crate) fn undo(&mut self, alloc: Global, numbers: &NumberList) -> Result<Told, Memory>
+        ensures fold { OnOk result (what_stood self.new ≡ what_stood self.old) }
+        ensures reason { IfOk result (λ told. told.reason ≡ None) }
+        ensures undone { OnOk result (TakesBack numbers.now.items self.old self.new) }
+    {
+        let waiting = self.world.waiting.len();
+        match take_latest(&mut self.latest, numbers, waiting, self.redeclared) {
+            Some(latest) => {
+                let told = self.undo_latest(alloc, numbers, latest)?;
+                Ok(told)
+            }
+            None => {
+                let told = self.recount(alloc, numbers, true)?;
+                Ok(told)
+            }
+        }
     }
 
-    /// They count again.
-    pub(crate) fn redo(&mut self, alloc: Global, numbers: &NumberList) -> Result<Told, Memory> {
+    // Takes back what the update did that was said last, which these numbers name.
+    fn undo_latest(
+        &mut self,
+        alloc: Global,
+        numbers: &NumberList,
+        latest: Latest,
+    ) -> Result<Told, Memory>
+        ensures fold { OnOk result (what_stood self.new ≡ what_stood self.old) }
+        ensures reason { IfOk result (λ told. told.reason ≡ None) }
+        ensures back { OnOk result (IsBackAt latest.world (what_stands self.old.world)
+            (what_stands self.new.world)) }
+    {
+        let before = visible_of(alloc, &self.world.ground)?;
+        let Latest { place, world, .. } = latest;
+        self.replays = self.replays.wrapping_add(1);
+        set_undone(&self.places, &mut self.held, numbers, true);
+        wait_no_more(alloc, &mut self.world.waiting, place);
+        self.world.back_to(alloc, world)?;
+        let told = self.told_since(alloc, &before, AgainList::new(alloc))?;
+        Ok(told)
+    }
+
+    /// The lines of these updates and their answers do not count any more, or count again.
+    pub(crate) fn recount(
+        &mut self,
+        alloc: Global,
+        numbers: &NumberList,
+        is_undone: bool,
+    ) -> Result<Told, Memory>
+        ensures fold { OnOk result (what_stood self.new ≡ what_stood self.old) }
+        ensures reason { IfOk result (λ told. told.reason ≡ None) }
+    {
         let before = self.before(alloc)?;
-        self.set_undone(numbers, false);
-        self.replay_and_tell(alloc, before, numbers)
+        set_undone(&self.places, &mut self.held, numbers, is_undone);
+        let told = self.replay_and_tell(alloc, before, numbers)?;
+        Ok(told)
     }
 
     /// The answers of these updates up to here do not count any more.
-    pub(crate) fn forget(&mut self, alloc: Global, numbers: &NumberList) -> Result<Told, Memory> {
+    pub(crate) fn forget(&mut self, alloc: Global, numbers: &NumberList) -> Result<Told, Memory>
+        ensures fold { OnOk result (what_stood self.new ≡ what_stood self.old) }
+        ensures reason { IfOk result (λ told. told.reason ≡ None) }
+    {
         let before = self.before(alloc)?;
-        for number in numbers.as_slice() {
-            if let Some(place) = self.place_of(*number) {
-                self.forget_answers(alloc, place);
-            }
-        }
-        self.replay_and_tell(alloc, before, numbers)
-    }
-
-    fn set_undone(&mut self, numbers: &NumberList, is_undone: bool) {
-        for number in numbers.as_slice() {
-            if let Some(place) = self.place_of(*number) {
-                if let Some(held) = self.held.get_mut(place) {
-                    held.is_undone = is_undone;
-                }
-            }
-        }
-    }
-
-    fn forget_answers(&mut self, alloc: Global, place: usize) {
-        for event in &mut self.events {
-            if answers_to(&event.said, place) {
-                event.is_forgotten = true;
-            }
-        }
-        if let Some(held) = self.held.get_mut(place) {
-            if held.first.is_some() {
-                held.first = Some(GivenList::new(alloc));
-            }
-        }
+        forget_all(
+            alloc,
+            &self.places,
+            &mut self.events,
+            &mut self.held,
+            numbers,
+        );
+        let told = self.replay_and_tell(alloc, before, numbers)?;
+        Ok(told)
     }
 
     // What is compared with what stands after the replay.
-    fn before(&mut self, alloc: Global) -> Result<Before, Memory> {
+    fn before(&mut self, alloc: Global) -> Result<Before, Memory>
+        ensures fold { what_stood self.new ≡ what_stood self.old }
+    {
         let statuses = self.statuses(alloc)?;
         let visible = visible_of(alloc, &self.world.ground)?;
         let order = mem::replace(&mut self.world.order, StandingList::new(alloc));
@@ -94,12 +130,23 @@ impl State {
         alloc: Global,
         before: Before,
         numbers: &NumberList,
-    ) -> Result<Told, Memory> {
+    ) -> Result<Told, Memory>
+        ensures fold { OnOk result (what_stood self.new ≡ what_stood self.old) }
+        ensures reason { IfOk result (λ told. told.reason ≡ None) }
+    {
         self.replay(alloc)?;
-        let after = visible_of(alloc, &self.world.ground)?;
-        let came = came_between(alloc, &before.visible, &after)?;
-        let went = came_between(alloc, &after, &before.visible)?;
         let again = self.changed(alloc, &before, numbers)?;
+        let told = self.told_since(alloc, &before.visible, again)?;
+        Ok(told)
+    }
+
+    // What came and went since then, and the other updates that changed.
+    fn told_since(&self, alloc: Global, before: &Visible, again: AgainList) -> Result<Told, Memory>
+        ensures reason { IfOk result (λ told. told.reason ≡ None) }
+    {
+        let after = visible_of(alloc, &self.world.ground)?;
+        let came = came_between(alloc, before, &after)?;
+        let went = came_between(alloc, &after, before)?;
         Ok(Told {
             status: None,
             reason: None,
@@ -108,7 +155,9 @@ impl State {
     }
 
     /// All lines that count, anew from what stood at the last fold.
-    pub(crate) fn replay(&mut self, alloc: Global) -> Result<(), Memory> {
+    pub(crate) fn replay(&mut self, alloc: Global) -> Result<(), Memory>
+        ensures fold { OnOk result (what_stood self.new ≡ what_stood self.old) }
+    {
         self.replays = self.replays.wrapping_add(1);
         self.restart(alloc)?;
         let events = mem::replace(&mut self.events, Vec::new(alloc));
@@ -119,20 +168,27 @@ impl State {
         Ok(())
     }
 
-    fn replay_one(&mut self, alloc: Global, event: &Event) -> Result<(), Memory> {
+    fn replay_one(&mut self, alloc: Global, event: &Event) -> Result<(), Memory>
+        ensures fold { OnOk result (what_stood self.new ≡ what_stood self.old) }
+    {
         if event.is_forgotten || self.is_undone_at(place_in(&event.said)) {
             return Ok(());
         }
-        match &event.said {
-            Said::Update(place) => self.run_again(alloc, *place, GivenList::new(alloc))?,
-            Said::Answer(place, given) => self.take_answer(alloc, *place, given)?,
-            Said::Go(place) => self.retry(alloc, *place)?,
-        };
+        do_again(
+            alloc,
+            &self.mappings,
+            &mut self.held,
+            &mut self.world,
+            &event.said,
+        )?;
         Ok(())
     }
 
     // Back to what stood at the last fold, with what waited then.
-    fn restart(&mut self, alloc: Global) -> Result<(), Memory> {
+    #[tactic(auto, using(crate::proofs::Staying::stood_at_start))]
+    fn restart(&mut self, alloc: Global) -> Result<(), Memory>
+        ensures fold { OnOk result (what_stood self.new ≡ what_stood self.old) }
+    {
         self.world.ground.back_to(ws_run::Mark {
             last: 0,
             names: self.first_names,
@@ -140,21 +196,11 @@ impl State {
         })?;
         self.world.in_force = self.first_in_force.copy(alloc)?;
         self.world.gone = List::new(alloc);
-        self.world.order = StandingList::new(alloc);
-        self.world.waiting = WaitingList::new(alloc);
-        self.wait_first(alloc)
-    }
-
-    // What waited at the last fold waits.
-    fn wait_first(&mut self, alloc: Global) -> Result<(), Memory> {
-        for (place, held) in self.held.iter().enumerate() {
-            if held.is_undone {
-                continue;
-            }
-            if let Some(first) = &held.first {
-                self.world.wait(place, first.copy(alloc)?)?;
-            }
-        }
+        self.redeclared = false;
+        keep(&mut self.latest, None);
+        renew(&mut self.world.order, StandingList::new(alloc));
+        let waiting = first_waiting(alloc, &self.held)?;
+        renew(&mut self.world.waiting, waiting);
         Ok(())
     }
 
@@ -205,6 +251,87 @@ impl State {
         }
         Ok(statuses)
     }
+}
+
+// Does what was said, over what stands now.
+fn do_again(
+    alloc: Global,
+    declared: &MappingList,
+    held: &mut HeldList,
+    world: &mut World,
+    said: &Said,
+) -> Result<Option<Reason>, Memory>
+    ensures goes_on { OnOk result (GoesOn world.old world.new) }
+{
+    match said {
+        Said::Update(place) => {
+            world.run_again(alloc, declared, held, *place, GivenList::new(alloc))
+        }
+        Said::Answer(place, given) => world.take_answer(alloc, declared, held, *place, given),
+        Said::Go(place) => world.retry(alloc, declared, held, *place),
+    }
+}
+
+// These updates are undone, or not any more.
+fn set_undone(
+    places: &BTreeMap<u32, usize>,
+    held: &mut HeldList,
+    numbers: &NumberList,
+    is_undone: bool,
+) {
+    for number in numbers.as_slice() {
+        if let Some(place) = places.get(number) {
+            if let Some(held) = held.get_mut(*place) {
+                held.is_undone = is_undone;
+            }
+        }
+    }
+}
+
+// The answers of these updates do not count any more.
+fn forget_all(
+    alloc: Global,
+    places: &BTreeMap<u32, usize>,
+    events: &mut Vec<Event>,
+    held: &mut HeldList,
+    numbers: &NumberList,
+) {
+    for number in numbers.as_slice() {
+        if let Some(place) = places.get(number) {
+            forget_answers(alloc, events, held, *place);
+        }
+    }
+}
+
+fn forget_answers(alloc: Global, events: &mut Vec<Event>, held: &mut HeldList, place: usize) {
+    for event in events.iter_mut() {
+        if answers_to(&event.said, place) {
+            event.is_forgotten = true;
+        }
+    }
+    if let Some(held) = held.get_mut(place) {
+        if held.first.is_some() {
+            held.first = Some(GivenList::new(alloc));
+        }
+    }
+}
+
+// What waited at the last fold, of the updates that are held.
+fn first_waiting(alloc: Global, held: &HeldList) -> Result<WaitingList, Memory> {
+    let mut waiting = WaitingList::new(alloc);
+    for (place, held) in held.iter().enumerate() {
+        if held.is_undone {
+            continue;
+        }
+        if let Some(first) = &held.first {
+            let answers = first.copy(alloc)?;
+            waiting.push(Waiting {
+                held: place,
+                answers,
+            })?;
+        }
+    }
+    Ok(waiting)
 }
 
 fn status_in(statuses: &[Status], place: usize) -> Status {

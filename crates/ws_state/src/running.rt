@@ -1,34 +1,46 @@
 //! Runs of updates over what stands.
+ghost use Rattle.std.specs.Prelude.{◌≡◌, OnOk, IfOk, IfSome};
+ghost use Rattle.ws_state.specs.Stands.{what_stands, HasRun, IsTakenBack, GoesOn};
 
 use crate::outcomes::{Ran, Tried, first_of};
-use crate::states::{HeldList, State};
+use crate::states::HeldList;
 use crate::turns::{Turn, run_turn};
-use crate::worlds::{Standing, Waiting, WaitingList, World};
-use base_types::{Memory, TryCopy};
+use crate::worlds::{
+    Standing, Waiting, WaitingList, World, drop_mapping, gives_up, put_in_force, wait_among,
+    wait_no_more,
+};
+use base_types::{List, MappingList, Memory, TryCopy};
 use std::alloc::Global;
 use std::mem;
 use ws_lines::{Deed, Given, GivenList};
 use ws_names::Places;
 use ws_run::{Mark, Reason};
 
-impl State {
+impl World {
     /// Runs the update at this place with these answers, and lets it stand or wait. It tells why it waits, if it does.
-    pub(crate) fn run_again(
+    #[tactic(auto, using(crate::proofs::Staying::looked, crate::proofs::Staying::same_on, crate::proofs::Staying::run_on))]
+    pub fn run_again(
         &mut self,
         alloc: Global,
+        declared: &MappingList,
+        held: &mut HeldList,
         place: usize,
         answers: GivenList,
-    ) -> Result<Option<Reason>, Memory> {
-        let mark = self.world.ground.mark();
-        let Tried { ran, places, .. } = self.run(alloc, place, &answers)?;
-        self.keep_places(place, places);
+    ) -> Result<Option<Reason>, Memory>
+        ensures goes_on { OnOk result (GoesOn self.old self.new) }
+        ensures waits { IfOk result (λ reason. IfSome reason (λ _.
+            what_stands self.new ≡ what_stands self.old)) }
+    {
+        let mark = self.ground.mark();
+        let Tried { ran, places, .. } = self.run(alloc, declared, held, place, &answers)?;
+        keep_places(held, place, places);
         match ran {
             Ran::Done(standing) => {
                 drop(answers);
-                self.let_stand(alloc, standing)?;
+                self.let_stand(alloc, held, standing)?;
                 Ok(None)
             }
-            Ran::Left(reason) => match self.let_wait(alloc, mark, place, answers) {
+            Ran::Left(reason) => match self.let_wait(alloc, held, mark, place, answers) {
                 Ok(()) => Ok(Some(reason)),
                 Err(memory) => {
                     drop(reason);
@@ -38,11 +50,21 @@ impl State {
         }
     }
 
-    // It stands, with the mapping that it puts in force or takes away.
-    fn let_stand(&mut self, alloc: Global, standing: Standing) -> Result<(), Memory> {
-        self.enforce(alloc, standing.held)?;
-        self.world.stand(alloc, standing)?;
-        self.sweep(alloc);
+    // It stands and waits no more, with the mapping that it puts in force or takes away.
+    #[tactic(auto, using(crate::proofs::Staying::more_stands))]
+    fn let_stand(
+        &mut self,
+        alloc: Global,
+        held: &HeldList,
+        standing: Standing,
+    ) -> Result<(), Memory>
+        ensures goes_on { OnOk result (GoesOn self.old self.new) }
+    {
+        let place = standing.held;
+        self.order.push(standing)?;
+        enforce(alloc, held, place, &mut self.in_force, &mut self.gone)?;
+        wait_no_more(alloc, &mut self.waiting, place);
+        sweep(alloc, held, &self.in_force, &self.gone, &mut self.waiting);
         Ok(())
     }
 
@@ -50,102 +72,100 @@ impl State {
     fn let_wait(
         &mut self,
         alloc: Global,
+        held: &HeldList,
         mark: Mark,
         place: usize,
         answers: GivenList,
-    ) -> Result<(), Memory> {
-        self.world.ground.back_to(mark)?;
-        self.world.wait(place, answers)?;
-        self.sweep(alloc);
+    ) -> Result<(), Memory>
+        ensures back { OnOk result (IsTakenBack mark.trail self.old self.new) }
+    {
+        self.ground.back_to(mark)?;
+        wait_among(&mut self.waiting, place, answers)?;
+        sweep(alloc, held, &self.in_force, &self.gone, &mut self.waiting);
         Ok(())
     }
 
     /// Runs it for a look: what stands stays as it is, and so does its table.
-    pub(crate) fn look(
+    #[tactic(auto, using(crate::proofs::Staying::looked))]
+    pub fn look(
         &mut self,
         alloc: Global,
+        declared: &MappingList,
+        held: &HeldList,
         place: usize,
         answers: &GivenList,
-    ) -> Result<Tried, Memory> {
-        let mark = self.world.ground.mark();
-        let tried = self.run(alloc, place, answers)?;
-        self.world.ground.back_to(mark)?;
+    ) -> Result<Tried, Memory>
+        ensures stands { OnOk result (what_stands self.new ≡ what_stands self.old) }
+        ensures waiting { OnOk result (self.new.waiting.items ≡ self.old.waiting.items) }
+    {
+        let mark = self.ground.mark();
+        let tried = self.run(alloc, declared, held, place, answers)?;
+        self.ground.back_to(mark)?;
         Ok(tried)
     }
 
     /// An update that waits takes the answer if it asks its question, in place of those that did not fit, and runs again.
-    pub(crate) fn take_answer(
+    #[tactic(auto, using(crate::proofs::Staying::same_on, crate::proofs::Staying::same_then_on))]
+    pub fn take_answer(
         &mut self,
         alloc: Global,
+        declared: &MappingList,
+        held: &mut HeldList,
         place: usize,
         given: &Given,
-    ) -> Result<Option<Reason>, Memory> {
-        let Some(answers) = self.world.answers_of(alloc, place)? else {
+    ) -> Result<Option<Reason>, Memory>
+        ensures goes_on { OnOk result (GoesOn self.old self.new) }
+        ensures waits { IfOk result (λ reason. IfSome reason (λ _.
+            what_stands self.new ≡ what_stands self.old)) }
+    {
+        let Some(answers) = self.answers_of(alloc, place)? else {
             return Ok(None);
         };
-        let Tried { ran, taken, .. } = self.look(alloc, place, &answers)?;
+        let Tried { ran, taken, .. } = self.look(alloc, declared, held, place, &answers)?;
         let reason = ran.reason();
         if !asks_it(&reason, given) {
             return Ok(reason);
         }
         drop(reason);
-        self.run_with(alloc, place, first_of(answers, taken), given)
-    }
-
-    // Runs it again with these answers and one more.
-    fn run_with(
-        &mut self,
-        alloc: Global,
-        place: usize,
-        answers: GivenList,
-        given: &Given,
-    ) -> Result<Option<Reason>, Memory> {
-        let mut answers = answers;
-        answers.push(given.copy(alloc)?)?;
-        self.run_again(alloc, place, answers)
+        let answers = with_one(alloc, first_of(answers, taken), given)?;
+        let reason = self.run_again(alloc, declared, held, place, answers)?;
+        Ok(reason)
     }
 
     /// An update that waits runs again, with the answers that fit.
-    pub(crate) fn retry(&mut self, alloc: Global, place: usize) -> Result<Option<Reason>, Memory> {
-        let Some(answers) = self.world.answers_of(alloc, place)? else {
+    #[tactic(auto, using(crate::proofs::Staying::same_on, crate::proofs::Staying::same_then_on))]
+    pub fn retry(
+        &mut self,
+        alloc: Global,
+        declared: &MappingList,
+        held: &mut HeldList,
+        place: usize,
+    ) -> Result<Option<Reason>, Memory>
+        ensures goes_on { OnOk result (GoesOn self.old self.new) }
+        ensures waits { IfOk result (λ reason. IfSome reason (λ _.
+            what_stands self.new ≡ what_stands self.old)) }
+    {
+        let Some(answers) = self.answers_of(alloc, place)? else {
             return Ok(None);
         };
-        let taken = self.look(alloc, place, &answers)?.taken;
-        self.run_again(alloc, place, first_of(answers, taken))
-    }
-
-    // A mapping that the update puts in force or takes away.
-    fn enforce(&mut self, alloc: Global, place: usize) -> Result<(), Memory> {
-        let Some(held) = self.held.get(place) else {
-            return Ok(());
-        };
-        match &held.update.deed {
-            Deed::Force(mapping) => self.world.put_in_force(*mapping),
-            Deed::Drop(mapping) => self.world.drop_mapping(alloc, *mapping),
-            _ => Ok(()),
-        }
-    }
-
-    // The table of the update at this place.
-    fn keep_places(&mut self, place: usize, places: Places) {
-        if let Some(held) = self.held.get_mut(place) {
-            drop(mem::replace(&mut held.places, places));
-        }
-    }
-
-    // What waits for a mapping that is gone, or to put one in force that is in force, is given up.
-    fn sweep(&mut self, alloc: Global) {
-        let waiting = mem::replace(&mut self.world.waiting, WaitingList::new(alloc));
-        let mut kept = waiting.into_vec();
-        let world = &self.world;
-        let held = &self.held;
-        kept.retain(|waiting| !is_given_up(world, held, waiting));
-        self.world.waiting = WaitingList::from_vec(kept);
+        let taken = self.look(alloc, declared, held, place, &answers)?.taken;
+        let reason = self.run_again(alloc, declared, held, place, first_of(answers, taken))?;
+        Ok(reason)
     }
 
     // Runs the update at this place over what stands.
-    fn run(&mut self, alloc: Global, place: usize, answers: &GivenList) -> Result<Tried, Memory> {
-        let Some(held) = self.held.get(place) else {
+    #[tactic(auto, using(crate::proofs::Staying::none_run))]
+    fn run(
+        &mut self,
+        alloc: Global,
+        declared: &MappingList,
+        held: &HeldList,
+        place: usize,
+        answers: &GivenList,
+    ) -> Result<Tried, Memory>
+        ensures ran { HasRun self.old self.new }
+    {
+        let Some(held) = held.get(place) else {
             return Err(Memory);
         };
         let places = held.places.copy(alloc)?;
@@ -154,14 +174,59 @@ impl State {
             update: &held.update,
             answers,
         };
-        run_turn(alloc, &self.mappings, &mut self.world, turn, places)
+        run_turn(alloc, declared, self, turn, places)
     }
 }
 
-fn is_given_up(world: &World, held: &HeldList, waiting: &Waiting) -> bool {
+// What waits for a mapping that is gone, or to put one in force that is in force, is given up.
+fn sweep(
+    alloc: Global,
+    held: &HeldList,
+    in_force: &List<u16>,
+    gone: &List<u16>,
+    list: &mut WaitingList,
+) {
+    let mut kept = mem::replace(list, WaitingList::new(alloc)).into_vec();
+    kept.retain(|waiting| !is_given_up(held, in_force, gone, waiting));
+    *list = WaitingList::from_vec(kept);
+}
+
+fn is_given_up(held: &HeldList, in_force: &List<u16>, gone: &List<u16>, waiting: &Waiting) -> bool {
     match held.get(waiting.held) {
-        Some(held) => world.gives_up(&held.update.deed),
+        Some(held) => gives_up(in_force, gone, &held.update.deed),
         None => false,
+    }
+}
+
+// The answers and one more.
+fn with_one(alloc: Global, answers: GivenList, given: &Given) -> Result<GivenList, Memory> {
+    let mut answers = answers;
+    answers.push(given.copy(alloc)?)?;
+    Ok(answers)
+}
+
+// A mapping that the update at this place puts in force or takes away.
+fn enforce(
+    alloc: Global,
+    held: &HeldList,
+    place: usize,
+    in_force: &mut List<u16>,
+    gone: &mut List<u16>,
+) -> Result<(), Memory> {
+    let Some(held) = held.get(place) else {
+        return Ok(());
+    };
+    match &held.update.deed {
+        Deed::Force(mapping) => put_in_force(in_force, *mapping),
+        Deed::Drop(mapping) => drop_mapping(alloc, in_force, gone, *mapping),
+        _ => Ok(()),
+    }
+}
+
+// The table of the update at this place.
+fn keep_places(held: &mut HeldList, place: usize, places: Places) {
+    if let Some(held) = held.get_mut(place) {
+        drop(mem::replace(&mut held.places, places));
     }
 }
 

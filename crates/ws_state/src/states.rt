@@ -1,5 +1,9 @@
 //! The state, and what is held of each update of the log.
+ghost use Rattle.std.specs.Prelude.{◌≡◌, None, OnOk, IfOk, IfSome};
+ghost use Rattle.ws_state.specs.Stands.{what_stands, what_stood, HasGoneOn, IfRuns, IfSays, IfUndoes};
+ghost use Rattle.ws_state.specs.Returns.{WasSaid, TakesBack};
 
+use crate::latest::{Latest, keep};
 use crate::outcomes::Tried;
 use crate::replays::Replayed;
 use crate::worlds::{StandingList, Status, WaitingList, World};
@@ -55,7 +59,8 @@ pub struct Told {
     pub replayed: Option<Replayed>,
 }
 
-/// The state that a log stands for.
+/// The state that a log stands for. What stood before the update that was said last is kept until another line runs; and whether a
+/// mapping was declared once more since all lines were replayed, so that a replay may give something else than what stands.
 #[derive(Drop)]
 pub struct State {
     pub(crate) tables: TableList,
@@ -66,6 +71,8 @@ pub struct State {
     pub(crate) first_in_force: List<u16>,
     pub(crate) first_names: usize,
     pub(crate) replays: u32,
+    pub(crate) latest: Option<Latest>,
+    pub(crate) redeclared: bool,
     pub(crate) last: u32,
     pub(crate) world: World,
 }
@@ -83,37 +90,52 @@ impl State {
             first_in_force: List::new(alloc),
             first_names: 0,
             replays: 0,
+            latest: None,
+            redeclared: false,
             last: 0,
             world: World::new(alloc, ground, List::new(alloc)),
         }
     }
 
     /// Does what the line says, and tells of it. It is refused only for want of memory; the state is then of no use.
-    pub fn take(&mut self, alloc: Global, line: Line) -> Result<Told, Memory> {
+    #[tactic(auto, using(crate::proofs::Staying::gone_on, crate::proofs::Staying::same_on, crate::proofs::Telling::none_told, crate::proofs::Telling::fold_told, crate::proofs::Telling::any_told))]
+    pub fn take(&mut self, alloc: Global, line: Line) -> Result<Told, Memory>
+        ensures fold { OnOk result (what_stood self.new ≡ what_stood self.old) }
+        ensures goes_on { OnOk result (IfRuns line (HasGoneOn self.old self.new)) }
+        ensures waits { IfOk result (λ told. IfSome told.reason (λ _.
+            what_stands self.new.world ≡ what_stands self.old.world)) }
+        ensures said { OnOk result (IfSays line (λ n. WasSaid n self.old self.new)) }
+        ensures undone { OnOk result (IfUndoes line (λ ns. TakesBack ns self.old self.new)) }
+    {
         match line {
             Line::Update(update) => self.say(alloc, update),
             Line::Answer(number, given) => self.answer(alloc, number, given),
             Line::Go(number) => self.go(alloc, number),
             Line::Undo(numbers) => self.undo(alloc, &numbers),
-            Line::Redo(numbers) => self.redo(alloc, &numbers),
+            Line::Redo(numbers) => self.recount(alloc, &numbers, false),
             Line::Forget(numbers) => self.forget(alloc, &numbers),
             Line::Relation(table) => {
-                self.declare_table(table)?;
+                declare_table(&mut self.tables, table)?;
                 Ok(nothing_told())
             }
             Line::Mapping(mapping) => {
-                self.declare_mapping(mapping)?;
+                self.redeclared = declare_mapping(&mut self.mappings, mapping)? || self.redeclared;
+                keep(&mut self.latest, None);
                 Ok(nothing_told())
             }
         }
     }
 
     // An update is said: it runs without answers.
-    fn say(&mut self, alloc: Global, update: Update) -> Result<Told, Memory> {
+    #[tactic(auto, using(crate::proofs::Telling::waits_told))]
+    fn say(&mut self, alloc: Global, update: Update) -> Result<Told, Memory>
+        ensures goes_on { OnOk result (HasGoneOn self.old self.new) }
+        ensures waits { IfOk result (λ told. IfSome told.reason (λ _.
+            what_stands self.new.world ≡ what_stands self.old.world)) }
+        ensures said { OnOk result (WasSaid update.number self.old self.new) }
+    {
         let number = update.number;
-        if self.last < number {
-            self.last = number;
-        }
+        self.last = self.last.max(number);
         let place = self.held.len();
         self.held.push(Held {
             update,
@@ -124,18 +146,31 @@ impl State {
         if self.places.insert(number, place).is_err() {
             return Err(Memory);
         }
-        self.note(Said::Update(place))?;
-        let reason = self.run_again(alloc, place, GivenList::new(alloc))?;
+        note(&mut self.events, Said::Update(place))?;
+        let latest = self.world.latest(alloc, number, place)?;
+        let answers = GivenList::new(alloc);
+        let reason = self
+            .world
+            .run_again(alloc, &self.mappings, &mut self.held, place, answers)?;
+        keep(&mut self.latest, Some(latest));
         Ok(self.told(place, reason))
     }
 
     // An update that waits is given an answer.
-    fn answer(&mut self, alloc: Global, number: u32, given: Given) -> Result<Told, Memory> {
+    #[tactic(auto, using(crate::proofs::Telling::waits_told))]
+    fn answer(&mut self, alloc: Global, number: u32, given: Given) -> Result<Told, Memory>
+        ensures goes_on { OnOk result (HasGoneOn self.old self.new) }
+        ensures waits { IfOk result (λ told. IfSome told.reason (λ _.
+            what_stands self.new.world ≡ what_stands self.old.world)) }
+    {
         let Some(place) = self.place_of(number) else {
             return Ok(nothing_told());
         };
-        let reason = self.take_answer(alloc, place, &given)?;
-        match self.note(Said::Answer(place, given)) {
+        keep(&mut self.latest, None);
+        let reason = self
+            .world
+            .take_answer(alloc, &self.mappings, &mut self.held, place, &given)?;
+        match note(&mut self.events, Said::Answer(place, given)) {
             Ok(()) => Ok(self.told(place, reason)),
             Err(memory) => {
                 drop(reason);
@@ -145,26 +180,27 @@ impl State {
     }
 
     // An update that waits is told to try again.
-    fn go(&mut self, alloc: Global, number: u32) -> Result<Told, Memory> {
+    #[tactic(auto, using(crate::proofs::Telling::waits_told))]
+    fn go(&mut self, alloc: Global, number: u32) -> Result<Told, Memory>
+        ensures goes_on { OnOk result (HasGoneOn self.old self.new) }
+        ensures waits { IfOk result (λ told. IfSome told.reason (λ _.
+            what_stands self.new.world ≡ what_stands self.old.world)) }
+    {
         let Some(place) = self.place_of(number) else {
             return Ok(nothing_told());
         };
-        self.note(Said::Go(place))?;
-        let reason = self.retry(alloc, place)?;
+        keep(&mut self.latest, None);
+        note(&mut self.events, Said::Go(place))?;
+        let reason = self
+            .world
+            .retry(alloc, &self.mappings, &mut self.held, place)?;
         Ok(self.told(place, reason))
     }
 
-    // What was said runs again at a replay.
-    fn note(&mut self, said: Said) -> Result<(), Memory> {
-        self.events.push(Event {
-            said,
-            is_forgotten: false,
-        })?;
-        Ok(())
-    }
-
     // What is told of the update that is held at this place.
-    fn told(&self, place: usize, reason: Option<Reason>) -> Told {
+    fn told(&self, place: usize, reason: Option<Reason>) -> Told
+        ensures reason { result.reason ≡ reason }
+    {
         Told {
             status: Some(self.status_at(place)),
             reason,
@@ -172,34 +208,23 @@ impl State {
         }
     }
 
-    // The relation is declared, anew if there is one of that name.
-    fn declare_table(&mut self, table: Table) -> Result<(), Memory> {
-        match self.table_number(table.name.as_slice()) {
-            Some(number) => put(&mut self.tables, number as usize, table),
-            None => self.tables.push(table)?,
-        }
-        Ok(())
-    }
-
-    // The mapping is declared, anew if there is one of that name.
-    fn declare_mapping(&mut self, mapping: Mapping) -> Result<(), Memory> {
-        match self.mapping_number(mapping.name.as_slice()) {
-            Some(number) => put(&mut self.mappings, number as usize, mapping),
-            None => self.mappings.push(mapping)?,
-        }
-        Ok(())
-    }
-
     /// Why the update of this number does not stand, if it waits, over what stands now; None if it does not wait or nothing is in
     /// its way. The state stays as it is. It is refused only for want of memory.
-    pub fn ask(&mut self, alloc: Global, number: u32) -> Result<Option<Reason>, Memory> {
+    pub fn ask(&mut self, alloc: Global, number: u32) -> Result<Option<Reason>, Memory>
+        ensures stands { OnOk result (what_stands self.new.world ≡ what_stands self.old.world) }
+        ensures waiting { OnOk result
+            (self.new.world.waiting.items ≡ self.old.world.waiting.items) }
+        ensures fold { OnOk result (what_stood self.new ≡ what_stood self.old) }
+    {
         let Some(place) = self.place_of(number) else {
             return Ok(None);
         };
         let Some(answers) = self.world.answers_of(alloc, place)? else {
             return Ok(None);
         };
-        let Tried { ran, .. } = self.look(alloc, place, &answers)?;
+        let Tried { ran, .. } = self
+            .world
+            .look(alloc, &self.mappings, &self.held, place, &answers)?;
         Ok(ran.reason())
     }
 
@@ -241,6 +266,50 @@ impl State {
     }
 }
 
+// What was said runs again at a replay.
+fn note(events: &mut Vec<Event>, said: Said) -> Result<(), Memory> {
+    events.push(Event {
+        said,
+        is_forgotten: false,
+    })?;
+    Ok(())
+}
+
+// The relation is declared, anew if there is one of that name.
+fn declare_table(tables: &mut TableList, table: Table) -> Result<(), Memory> {
+    match table_among(tables, table.name.as_slice()) {
+        Some(number) => put(tables, number as usize, table),
+        None => tables.push(table)?,
+    }
+    Ok(())
+}
+
+// The mapping is declared, anew if there is one of that name, which is told.
+fn declare_mapping(mappings: &mut MappingList, mapping: Mapping) -> Result<bool, Memory> {
+    match mapping_among(mappings, mapping.name.as_slice()) {
+        Some(number) => {
+            put(mappings, number as usize, mapping);
+            Ok(true)
+        }
+        None => {
+            mappings.push(mapping)?;
+            Ok(false)
+        }
+    }
+}
+
+fn table_among(tables: &TableList, name: &[u8]) -> Option<u16> {
+    let mut tables = tables.as_slice().iter();
+    let place = tables.position(|table| table.name.as_slice() == name)?;
+    u16::try_from(place).ok()
+}
+
+fn mapping_among(mappings: &MappingList, name: &[u8]) -> Option<u16> {
+    let mut mappings = mappings.as_slice().iter();
+    let place = mappings.position(|mapping| mapping.name.as_slice() == name)?;
+    u16::try_from(place).ok()
+}
+
 /// The count as the number of a relation or a mapping; the greatest if there is none so great.
 pub(crate) fn small(count: usize) -> u16 {
     u16::try_from(count).unwrap_or(u16::MAX)
@@ -254,7 +323,9 @@ pub(crate) fn put<T: Drop>(list: &mut List<T>, place: usize, item: T) {
 }
 
 /// Nothing is told.
-pub(crate) fn nothing_told() -> Told {
+pub(crate) fn nothing_told() -> Told
+    ensures reason { result.reason ≡ None }
+{
     Told {
         status: None,
         reason: None,
@@ -287,16 +358,12 @@ impl State {
 
     /// The number of the relation of this name; None if there is none.
     pub fn table_number(&self, name: &[u8]) -> Option<u16> {
-        let mut tables = self.tables.as_slice().iter();
-        let place = tables.position(|table| table.name.as_slice() == name)?;
-        u16::try_from(place).ok()
+        table_among(&self.tables, name)
     }
 
     /// The number of the mapping of this name, gone or not; None if there is none.
     pub fn mapping_number(&self, name: &[u8]) -> Option<u16> {
-        let mut mappings = self.mappings.as_slice().iter();
-        let place = mappings.position(|mapping| mapping.name.as_slice() == name)?;
-        u16::try_from(place).ok()
+        mapping_among(&self.mappings, name)
     }
 
     /// The tuples, whose nulls are those within.

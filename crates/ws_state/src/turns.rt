@@ -1,8 +1,10 @@
 //! One update run over what stands.
+ghost use Rattle.ws_ground.specs.Trails.{HasGrown};
+ghost use Rattle.ws_state.specs.Stands.{HasRun};
 
 use crate::active::{active_for, fixed_mapping, within};
 use crate::outcomes::{Tried, done_by, done_with, done_without_ops, halted, left};
-use crate::worlds::World;
+use crate::worlds::{World, gone_of};
 use base_limits::Budget;
 use base_types::{
     ChoiceList, MappingList, Memory, Operation, TryCopy, TupleList, Value, ValueList,
@@ -22,15 +24,18 @@ pub(crate) struct Turn<'a> {
 }
 
 /// Runs the update over what stands. If it is not done, what its ops did has to be taken back. It is refused only for want of memory.
+#[tactic(auto, using(crate::proofs::Staying::none_run))]
 pub(crate) fn run_turn(
     alloc: Global,
     declared: &MappingList,
     world: &mut World,
     turn: Turn<'_>,
     places: Places,
-) -> Result<Tried, Memory> {
+) -> Result<Tried, Memory>
+    ensures ran { HasRun world.old world.new }
+{
     let deed = &turn.update.deed;
-    if let Some(mapping) = world.gone_of(deed) {
+    if let Some(mapping) = gone_of(&world.gone, deed) {
         return Ok(left(Reason::Gone(mapping), places));
     }
     match deed {
@@ -41,6 +46,7 @@ pub(crate) fn run_turn(
 }
 
 // A mapping comes into force if it has no violation, as an op of its own.
+#[tactic(auto, using(crate::proofs::Staying::none_run, ws_ground::proofs::Trailing::none_made))]
 fn run_force(
     alloc: Global,
     declared: &MappingList,
@@ -48,7 +54,9 @@ fn run_force(
     turn: Turn<'_>,
     mapping: u16,
     places: Places,
-) -> Result<Tried, Memory> {
+) -> Result<Tried, Memory>
+    ensures ran { HasRun world.old world.new }
+{
     if world.is_in_force(mapping) {
         return Ok(done_without_ops(alloc, turn.place, places));
     }
@@ -83,13 +91,16 @@ fn enacted(
 }
 
 // Runs the ops of the update over what stands.
+#[tactic(auto, using(crate::proofs::Staying::none_run))]
 fn run_ops(
     alloc: Global,
     declared: &MappingList,
     world: &mut World,
     turn: Turn<'_>,
     places: Places,
-) -> Result<Tried, Memory> {
+) -> Result<Tried, Memory>
+    ensures ran { HasRun world.old world.new }
+{
     let deed = &turn.update.deed;
     let active = active_for(alloc, declared, world.in_force.as_slice(), deed)?;
     let Some(mappings) = within(&active.mappings) else {
@@ -119,13 +130,16 @@ fn budget_for(steps: u32) -> Budget {
 }
 
 // Runs the ops of the update over the ground.
+#[tactic(auto, using(ws_ground::proofs::Trailing::none_made))]
 fn run_over(
     alloc: Global,
     setting: &Setting<'_>,
     ground: &mut Ground,
     turn: Turn<'_>,
     places: Places,
-) -> Result<Tried, Memory> {
+) -> Result<Tried, Memory>
+    ensures grown { HasGrown ground.old ground.new }
+{
     let deed = &turn.update.deed;
     let image = image_of(alloc, setting, ground, deed)?;
     let mut thread = Thread::new(alloc, places);

@@ -91,49 +91,9 @@ impl World {
         is_among(&self.gone, mapping)
     }
 
-    /// The mapping that the update speaks of, if it is gone.
-    pub fn gone_of(&self, deed: &Deed) -> Option<u16> {
-        let mapping = match deed {
-            Deed::Fix(mapping, _) => *mapping,
-            Deed::Force(mapping) => *mapping,
-            Deed::Drop(mapping) => *mapping,
-            _ => return None,
-        };
-        if self.is_gone(mapping) {
-            return Some(mapping);
-        }
-        None
-    }
-
-    /// Whether such an update, if it waits, is given up.
-    pub fn gives_up(&self, deed: &Deed) -> bool {
-        match deed {
-            Deed::Force(mapping) => self.is_gone(*mapping) || self.is_in_force(*mapping),
-            _ => self.gone_of(deed).is_some(),
-        }
-    }
-
-    /// Puts a mapping in force, after the others, unless it is. It is refused only for want of memory.
-    pub fn put_in_force(&mut self, mapping: u16) -> Result<(), Memory> {
-        if !self.is_in_force(mapping) {
-            self.in_force.push(mapping)?;
-        }
-        Ok(())
-    }
-
-    /// Takes a mapping away. It is refused only for want of memory.
-    pub fn drop_mapping(&mut self, alloc: Global, mapping: u16) -> Result<(), Memory> {
-        self.gone.push(mapping)?;
-        let mut kept = mem::replace(&mut self.in_force, List::new(alloc)).into_vec();
-        kept.retain(|other| *other != mapping);
-        self.in_force = List::from_vec(kept);
-        Ok(())
-    }
-
     /// The place among those that wait of the update that is held at this place.
     pub fn waiting_place(&self, held: usize) -> Option<usize> {
-        let mut waiting = self.waiting.as_slice().iter();
-        waiting.position(|waiting| waiting.held == held)
+        place_among(&self.waiting, held)
     }
 
     /// The answers of the update that is held at this place, if it waits. It is refused only for want of memory.
@@ -145,29 +105,86 @@ impl World {
         }
     }
 
-    /// The update stands, and waits no more. It is refused only for want of memory.
-    pub fn stand(&mut self, alloc: Global, standing: Standing) -> Result<(), Memory> {
-        let held = standing.held;
-        self.order.push(standing)?;
-        self.wait_no_more(alloc, held);
-        Ok(())
-    }
-
-    fn wait_no_more(&mut self, alloc: Global, held: usize) {
-        let mut kept = mem::replace(&mut self.waiting, WaitingList::new(alloc)).into_vec();
-        kept.retain(|waiting| waiting.held != held);
-        self.waiting = WaitingList::from_vec(kept);
-    }
-
     /// The update waits with these answers: in its place if it waited, else as the last. It is refused only for want of memory.
     pub fn wait(&mut self, held: usize, answers: GivenList) -> Result<(), Memory> {
-        let waiting = Waiting { held, answers };
-        match self.waiting_place(held) {
-            Some(place) => put(&mut self.waiting, place, waiting),
-            None => self.waiting.push(waiting)?,
-        }
-        Ok(())
+        wait_among(&mut self.waiting, held, answers)
     }
+}
+
+/// The mapping that the update speaks of, if it is among those that are gone.
+pub(crate) fn gone_of(gone: &List<u16>, deed: &Deed) -> Option<u16> {
+    let mapping = match deed {
+        Deed::Fix(mapping, _) => *mapping,
+        Deed::Force(mapping) => *mapping,
+        Deed::Drop(mapping) => *mapping,
+        _ => return None,
+    };
+    if is_among(gone, mapping) {
+        return Some(mapping);
+    }
+    None
+}
+
+/// Whether such an update, if it waits, is given up, where these mappings are in force and gone.
+pub(crate) fn gives_up(in_force: &List<u16>, gone: &List<u16>, deed: &Deed) -> bool {
+    match deed {
+        Deed::Force(mapping) => is_among(gone, *mapping) || is_among(in_force, *mapping),
+        _ => gone_of(gone, deed).is_some(),
+    }
+}
+
+/// Puts a mapping in force, after the others, unless it is. It is refused only for want of memory.
+pub(crate) fn put_in_force(in_force: &mut List<u16>, mapping: u16) -> Result<(), Memory> {
+    if !is_among(in_force, mapping) {
+        in_force.push(mapping)?;
+    }
+    Ok(())
+}
+
+/// Takes a mapping away. It is refused only for want of memory.
+pub(crate) fn drop_mapping(
+    alloc: Global,
+    in_force: &mut List<u16>,
+    gone: &mut List<u16>,
+    mapping: u16,
+) -> Result<(), Memory> {
+    gone.push(mapping)?;
+    let mut kept = mem::replace(in_force, List::new(alloc)).into_vec();
+    kept.retain(|other| *other != mapping);
+    *in_force = List::from_vec(kept);
+    Ok(())
+}
+
+/// The update waits among these, in its place if it waited, else as the last. It is refused only for want of memory.
+pub(crate) fn wait_among(
+    list: &mut WaitingList,
+    held: usize,
+    answers: GivenList,
+) -> Result<(), Memory> {
+    let waiting = Waiting { held, answers };
+    match place_among(list, held) {
+        Some(place) => put(list, place, waiting),
+        None => list.push(waiting)?,
+    }
+    Ok(())
+}
+
+/// The update waits no more.
+pub(crate) fn wait_no_more(alloc: Global, list: &mut WaitingList, held: usize) {
+    let mut kept = mem::replace(list, WaitingList::new(alloc)).into_vec();
+    kept.retain(|waiting| waiting.held != held);
+    *list = WaitingList::from_vec(kept);
+}
+
+// The place among these of the update that is held at this place.
+fn place_among(list: &WaitingList, held: usize) -> Option<usize> {
+    let mut waiting = list.as_slice().iter();
+    waiting.position(|waiting| waiting.held == held)
+}
+
+/// Puts the list in place of what was there.
+pub(crate) fn renew<T: Drop>(list: &mut List<T>, new: List<T>) {
+    drop(mem::replace(list, new));
 }
 
 fn is_among(numbers: &List<u16>, number: u16) -> bool {

@@ -1,4 +1,4 @@
-use Rattle.std.proofs.Common.{◌≡◌, ◌∙◌, ◌≤◌, subst, sym, List, map, length, arith}
+use Rattle.std.proofs.Common.{◌≤◌, subst, List, map, length, arith}
 use Rattle.std.proofs.lemmas.List.{length-map}
 use Rattle.std.specs.List.{AllByRecursion}
 use Rattle.def_chase.specs.Mappings.{Rule}
