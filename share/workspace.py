@@ -6,7 +6,8 @@ CRATES = Path(__file__).resolve().parent.parent / "crates"
 TEXT = r'"((?:[^"\\]|\\.)*)"'
 GROUPS = {"RULES": "Tables and rules", "CHANGES": "Changes", "LOOKING": "Looking", "OUT": "Out"}
 WORDS = {"empty": "new text skip refuse", "separator": "tab"}    # what some options of commands take
-FILES_TAKEN = "to"                                               # the option that takes a file
+FILES_TAKEN = ("to", "sqlite")                                   # the options that take a file
+UNTOLD = {"export": ("sqlite", "--sqlite FILE makes a database of SQLite with the tables of --sql in FILE.")}    # not in the help
 
 
 def source(crate, file):
@@ -36,7 +37,7 @@ def details():
     arms = re.findall(r"((?:Verb::\w+(?: \| )?)+) => (\w+|\"\"),", function(text, "details_of"))
     told = {verb.lower(): " ".join(named.get(name, "").split())
             for verbs, name in arms for verb in re.findall(r"Verb::(\w+)", verbs)}
-    return {verb: told.get(verb, "") for verb in FORMS}
+    return {verb: ". ".join([told.get(verb, ""), *UNTOLD.get(verb, ())[1:]]) for verb in FORMS}
 
 
 def options():
@@ -45,7 +46,7 @@ def options():
     names = dict(re.findall(rf"Opt::(\w+) => {TEXT}", function(text, "name")))
     lists = {name: re.findall(r"Opt::(\w+)", of) for name, of in re.findall(r"const (\w+): \[Opt; \d+\] =\s*\[(.*?)\];", text, re.S)}
     arms = re.findall(r"((?:Verb::\w+(?:\s*\| )?)+)\s*=>\s*&(\w+|\[\])", function(text, "options"))
-    return {verb.lower(): [names[o] for o in lists.get(name, [])]
+    return {verb.lower(): [names[o] for o in lists.get(name, [])] + [*UNTOLD.get(verb.lower(), ())[:1]]
             for verbs, name in arms for verb in re.findall(r"Verb::(\w+)", verbs)}
 
 
@@ -172,7 +173,7 @@ _yt() {{
   done
   case $verb$before in {valued}) return ;; esac
   case $before in
-{words}    --{FILES_TAKEN}) COMPREPLY=($(compgen -f -- "$word")); return ;;
+{words}    {"|".join("--" + name for name in FILES_TAKEN)}) COMPREPLY=($(compgen -f -- "$word")); return ;;
   esac
   case $verb in
     '') options="{own}" ;;
@@ -213,7 +214,7 @@ def fish(entries):
     lines += [f"complete -c yt -n __yt_needs_command -a {verb} -d {quoted(SHORTS[verb])}" for verb in VERBS]
     for verb in VERBS:
         for name in OPTIONS[verb]:
-            value = f" -x -a {quoted(WORDS[name])}" if name in WORDS else " -r" if name == FILES_TAKEN else ""
+            value = f" -x -a {quoted(WORDS[name])}" if name in WORDS else " -r" if name in FILES_TAKEN else ""
             lines.append(f"complete -c yt -n '__fish_seen_subcommand_from {verb}' -l {name}{value}")
     return "\n".join(lines) + "\n"
 

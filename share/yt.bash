@@ -15,7 +15,7 @@ _yt() {
   case $before in
     --empty) COMPREPLY=($(compgen -W "new text skip refuse" -- "$word")); return ;;
     --separator) COMPREPLY=($(compgen -W "tab" -- "$word")); return ;;
-    --to) COMPREPLY=($(compgen -f -- "$word")); return ;;
+    --to|--sqlite) COMPREPLY=($(compgen -f -- "$word")); return ;;
   esac
   case $verb in
     '') options="--as --json --wait --keep-going --no-files --help --version" ;;
@@ -37,7 +37,7 @@ _yt() {
     questions) options="--like --limit --mine" ;;
     violations) options="--limit" ;;
     log) options="--limit --since" ;;
-    export) options="--csv --sql --json --to" ;;
+    export) options="--csv --sql --json --to --sqlite" ;;
     page) options="--to" ;;
     graph) options="--to" ;;
     dump) options="--to" ;;

@@ -84,6 +84,7 @@ complete -c yt -n '__fish_seen_subcommand_from export' -l csv
 complete -c yt -n '__fish_seen_subcommand_from export' -l sql
 complete -c yt -n '__fish_seen_subcommand_from export' -l json
 complete -c yt -n '__fish_seen_subcommand_from export' -l to -r
+complete -c yt -n '__fish_seen_subcommand_from export' -l sqlite -r
 complete -c yt -n '__fish_seen_subcommand_from page' -l to -r
 complete -c yt -n '__fish_seen_subcommand_from graph' -l to -r
 complete -c yt -n '__fish_seen_subcommand_from dump' -l to -r

@@ -33,13 +33,14 @@ pub enum Why {
     Unknown(Unknown),
 }
 
-/// `export`: one relation or all, the forms that were named, and the file of `--to`.
+/// `export`: one relation or all, the forms that were named, among them the file of `--sqlite`, and the file of `--to`.
 #[derive(Drop)]
 pub struct Export {
     pub relation: Option<u32>,
     pub csv: bool,
     pub sql: bool,
     pub json: bool,
+    pub sqlite: Option<String>,
     pub to: Option<String>,
 }
 

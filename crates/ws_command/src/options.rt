@@ -28,6 +28,7 @@ pub enum Opt {
     Csv,
     Sql,
     Json,
+    Sqlite,
     To,
 }
 
@@ -71,6 +72,7 @@ impl Opt {
             Opt::Csv => "csv",
             Opt::Sql => "sql",
             Opt::Json => "json",
+            Opt::Sqlite => "sqlite",
             Opt::To => "to",
         }
     }
@@ -81,7 +83,7 @@ impl Opt {
             Opt::Steps | Opt::Lines | Opt::Limit | Opt::From => OptKind::Count,
             Opt::At | Opt::Still | Opt::Since => OptKind::Record,
             Opt::Empty | Opt::Separator | Opt::Text | Opt::Null => OptKind::Word,
-            Opt::Columns | Opt::Like | Opt::To => OptKind::Word,
+            Opt::Columns | Opt::Like | Opt::Sqlite | Opt::To => OptKind::Word,
             _ => OptKind::Flag,
         }
     }
