@@ -5,10 +5,10 @@ use def_memory::Memory;
 use std::alloc::Global;
 use std::collections::BTreeSet;
 use ws_command::SaidChoice;
-use ws_done::refuse;
 use ws_fault::{Nearest, Refusal, meant};
 use ws_lines::Asked;
 use ws_question::{AskedNow, count_text, fact_text};
+use ws_report::refuse;
 use ws_space::Space;
 use ws_written::{Answer, Choice, Fact, Question};
 
@@ -95,10 +95,7 @@ fn named(
     asked: &AskedNow,
     facts: &[Fact],
 ) -> Result<Vec<Tuple>, Refusal> {
-    let mut candidates: BTreeSet<Tuple> = BTreeSet::new(alloc);
-    for candidate in asked.question.candidates.as_slice() {
-        candidates.insert(candidate.share()?)?;
-    }
+    let candidates = in_order(alloc, asked.question.candidates.as_slice())?;
     let mut chosen = Vec::new(alloc);
     for fact in facts {
         let tuple = space.tuple(alloc, fact)?;
@@ -133,10 +130,7 @@ fn nearest_of(
     asked: &AskedNow,
     text: &str,
 ) -> Result<Option<String>, Memory> {
-    let mut texts = Vec::new(alloc);
-    for candidate in asked.question.candidates.as_slice() {
-        texts.push(fact_text(alloc, space, candidate)?)?;
-    }
+    let texts = texts_of(alloc, space, asked.question.candidates.as_slice())?;
     let mut nearest = Nearest::to(alloc, text)?;
     for candidate in texts.iter() {
         nearest.consider(candidate.as_str())?;
@@ -145,6 +139,14 @@ fn nearest_of(
         Some(name) => Ok(Some(String::from_str(alloc, name)?)),
         None => Ok(None),
     }
+}
+
+fn texts_of(alloc: Global, space: &Space, tuples: &[Tuple]) -> Result<Vec<String>, Memory> {
+    let mut texts = Vec::new(alloc);
+    for tuple in tuples {
+        texts.push(fact_text(alloc, space, tuple)?)?;
+    }
+    Ok(texts)
 }
 
 // The choice of these candidates.
@@ -165,15 +167,20 @@ fn taken(
 
 // The tuples in order, each once.
 fn each_once(alloc: Global, space: &Space, tuples: &[Tuple]) -> Result<Vec<Fact>, Refusal> {
-    let mut rising: BTreeSet<Tuple> = BTreeSet::new(alloc);
-    for tuple in tuples {
-        rising.insert(tuple.share()?)?;
-    }
+    let rising = in_order(alloc, tuples)?;
     let mut facts = Vec::new(alloc);
     for tuple in &rising {
         facts.push(space.fact(alloc, tuple)?)?;
     }
     Ok(facts)
+}
+
+fn in_order(alloc: Global, tuples: &[Tuple]) -> Result<BTreeSet<Tuple>, Refusal> {
+    let mut rising = BTreeSet::new(alloc);
+    for tuple in tuples {
+        rising.insert(tuple.share()?)?;
+    }
+    Ok(rising)
 }
 
 fn facts_of(alloc: Global, space: &Space, tuples: &TupleList) -> Result<Vec<Fact>, Memory> {

@@ -3,11 +3,10 @@
 use crate::records::steps_of;
 use def_memory::Memory;
 use std::alloc::Global;
-use ws_done::{Done, recorded, refuse};
 use ws_fault::{Refusal, Status};
 use ws_lines::Deed;
 use ws_question::{AskedNow, asked_now, count_text, question_next, reason_words};
-use ws_report::{Report, spent_fault};
+use ws_report::{Done, Report, recorded, refuse, spent_fault};
 use ws_run::Reason;
 use ws_space::Space;
 use ws_state::{Mark, Told};
@@ -109,21 +108,33 @@ fn cannot(alloc: Global, space: &Space, number: u32, reason: &Reason) -> Result<
 
 // After a repair, how many violations are left of its mapping.
 fn left_of(alloc: Global, space: &Space, number: u32) -> Result<Left, Memory> {
-    let mut also = Vec::new(alloc);
-    let mut next = Vec::new(alloc);
+    let mut left = Left {
+        also: Vec::new(alloc),
+        next: Vec::new(alloc),
+    };
     if let Some(mapping) = fixed_by(space, number) {
         let name = space.mapping_name(mapping);
-        let left = space.count_violations(alloc, mapping)?;
-        if left == 0 {
-            also.push(format!(in alloc; "{name} has no violation now")?)?;
-            next.push(format!(in alloc; "adopt {name}")?)?;
-        } else {
-            let left = count_text(alloc, left, "violation")?;
-            also.push(format!(in alloc; "{left} of {name} left")?)?;
-            next.push(String::from_str(alloc, "questions")?)?;
-        }
+        let count = space.count_violations(alloc, mapping)?;
+        left.add(alloc, name, count)?;
     }
-    Ok(Left { also, next })
+    Ok(left)
+}
+
+impl Left {
+    // So many violations of the mapping of this name are left.
+    fn add(&mut self, alloc: Global, name: &str, count: usize) -> Result<(), Memory> {
+        if count == 0 {
+            self.also
+                .push(format!(in alloc; "{name} has no violation now")?)?;
+            self.next.push(format!(in alloc; "adopt {name}")?)?;
+            return Ok(());
+        }
+        let count = count_text(alloc, count, "violation")?;
+        self.also
+            .push(format!(in alloc; "{count} of {name} left")?)?;
+        self.next.push(String::from_str(alloc, "questions")?)?;
+        Ok(())
+    }
 }
 
 // The mapping that the update repairs, if it is a repair.

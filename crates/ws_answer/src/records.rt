@@ -5,14 +5,6 @@ use std::alloc::Global;
 use std::collections::BTreeSet;
 use ws_space::Space;
 
-// The number of the update that is held at this place.
-fn number_at(space: &Space, held: usize) -> Option<u32> {
-    match space.state.held().get(held) {
-        Some(held) => Some(held.update.number),
-        None => None,
-    }
-}
-
 fn put(numbers: &mut BTreeSet<u32>, number: Option<u32>) -> Result<(), Memory> {
     match number {
         Some(number) => match numbers.insert(number) {
@@ -25,19 +17,19 @@ fn put(numbers: &mut BTreeSet<u32>, number: Option<u32>) -> Result<(), Memory> {
 
 /// Whether the update waits.
 pub(crate) fn is_waiting(space: &Space, number: u32) -> bool {
-    space
-        .state
-        .waiting()
-        .as_slice()
-        .iter()
-        .any(|waiting| number_at(space, waiting.held) == Some(number))
+    for waiting in space.state.waiting().as_slice() {
+        if space.number_at(waiting.held) == Some(number) {
+            return true;
+        }
+    }
+    false
 }
 
 /// The numbers of the updates that wait. It is refused only for want of memory.
 pub(crate) fn waiting_numbers(alloc: Global, space: &Space) -> Result<BTreeSet<u32>, Memory> {
     let mut numbers = BTreeSet::new(alloc);
     for waiting in space.state.waiting().as_slice() {
-        put(&mut numbers, number_at(space, waiting.held))?;
+        put(&mut numbers, space.number_at(waiting.held))?;
     }
     Ok(numbers)
 }
@@ -62,12 +54,12 @@ pub(crate) fn answered_numbers(alloc: Global, space: &Space) -> Result<BTreeSet<
     let mut numbers = BTreeSet::new(alloc);
     for standing in space.state.order().as_slice() {
         if !standing.answers.is_empty() {
-            put(&mut numbers, number_at(space, standing.held))?;
+            put(&mut numbers, space.number_at(standing.held))?;
         }
     }
     for waiting in space.state.waiting().as_slice() {
         if !waiting.answers.is_empty() {
-            put(&mut numbers, number_at(space, waiting.held))?;
+            put(&mut numbers, space.number_at(waiting.held))?;
         }
     }
     Ok(numbers)

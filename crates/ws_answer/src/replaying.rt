@@ -4,11 +4,10 @@ use crate::records::waiting_numbers;
 use base_types::TupleList;
 use def_memory::Memory;
 use std::alloc::{AllocError, Global};
-use ws_done::{Done, recorded, told_line};
 use ws_fault::{Refusal, Status as Comes};
 use ws_print::Lines;
 use ws_question::{reason_words, status_word};
-use ws_report::{AgainTold, Note, Report};
+use ws_report::{AgainTold, Done, Note, Report, recorded, told_line};
 use ws_space::Space;
 use ws_state::{Again, Effect, FilledList, Moved, MovedList, Replayed, Status, Told};
 use ws_written::Line;
@@ -45,16 +44,28 @@ fn replayed(
         Some(replayed) => {
             let again = again_of(alloc, space, &replayed, asked.numbers.as_slice())?;
             let questions = questions_of(alloc, again.as_slice())?;
-            let also = forces_told(alloc, space, before.as_slice())?;
-            let text = told_line(alloc, space, line)?;
-            let effect = effect_of(alloc, &replayed)?;
-            let mut report = Report::with_effect(alloc, Comes::Done, "done", text, effect);
-            report.also = also;
+            let mut report = report_of(alloc, space, line, before.as_slice(), &replayed)?;
             report.again = again;
             Ok(with_words(report, asked, questions))
         }
         None => Err(Refusal::Memory),
     }
+}
+
+// What the line did, and what came of it to the mappings that were in force before.
+fn report_of(
+    alloc: Global,
+    space: &Space,
+    line: &Line,
+    before: &[u16],
+    replayed: &Replayed,
+) -> Result<Report, Memory> {
+    let also = forces_told(alloc, space, before)?;
+    let text = told_line(alloc, space, line)?;
+    let effect = effect_of(alloc, replayed)?;
+    let mut report = Report::with_effect(alloc, Comes::Done, "done", text, effect);
+    report.also = also;
+    Ok(report)
 }
 
 // The report with its hints and what may be said next; `questions` is that if something waits.
@@ -74,10 +85,19 @@ fn with_words(report: Report, asked: ReplayWords, questions: Vec<String>) -> Rep
 // What may be said next if one of the updates waits.
 fn questions_of(alloc: Global, again: &[AgainTold]) -> Result<Vec<String>, AllocError> {
     let mut next = Vec::new(alloc);
-    if again.iter().any(|one| one.now == "waits") {
+    if one_waits(again) {
         next.push(String::from_str(alloc, "questions")?)?;
     }
     Ok(next)
+}
+
+fn one_waits(again: &[AgainTold]) -> bool {
+    for one in again {
+        if one.now == "waits" {
+            return true;
+        }
+    }
+    false
 }
 
 // What came and went, by no mapping.
@@ -112,9 +132,29 @@ fn again_of(
     numbers: &[u32],
 ) -> Result<Vec<AgainTold>, Memory> {
     let mut told = Vec::new(alloc);
-    for again in replayed.again.as_slice() {
+    add_others(alloc, space, &mut told, replayed.again.as_slice())?;
+    add_waiting(alloc, space, &mut told, numbers)?;
+    Ok(told)
+}
+
+fn add_others(
+    alloc: Global,
+    space: &mut Space,
+    told: &mut Vec<AgainTold>,
+    others: &[Again],
+) -> Result<(), Memory> {
+    for again in others {
         told.push(again_told(alloc, space, *again)?)?;
     }
+    Ok(())
+}
+
+fn add_waiting(
+    alloc: Global,
+    space: &mut Space,
+    told: &mut Vec<AgainTold>,
+    numbers: &[u32],
+) -> Result<(), Memory> {
     let waiting = waiting_numbers(alloc, space)?;
     for number in numbers {
         if waiting.contains(number) {
@@ -126,26 +166,33 @@ fn again_of(
             told.push(again_told(alloc, space, again)?)?;
         }
     }
-    Ok(told)
+    Ok(())
 }
 
 // The mappings that are no longer in force, and those that are again.
 fn forces_told(alloc: Global, space: &Space, before: &[u16]) -> Result<Vec<String>, Memory> {
     let after = space.state.in_force();
     let mut told = Lines::new(alloc);
-    for mapping in before {
-        if !after.iter().any(|other| other == mapping) {
-            let name = space.mapping_name(*mapping);
-            told.made(format!(in alloc; "mapping {name} is no longer in force"));
-        }
-    }
-    for mapping in after {
-        if !before.iter().any(|other| other == mapping) {
-            let name = space.mapping_name(*mapping);
-            told.made(format!(in alloc; "mapping {name} is in force again"));
-        }
-    }
+    add_apart(alloc, space, &mut told, before, after, "no longer in force");
+    add_apart(alloc, space, &mut told, after, before, "in force again");
     Ok(told.done()?)
+}
+
+// Tells how the mappings are that are among the first ones alone.
+fn add_apart(
+    alloc: Global,
+    space: &Space,
+    told: &mut Lines,
+    ones: &[u16],
+    others: &[u16],
+    how: &str,
+) {
+    for mapping in ones {
+        if !others.contains(mapping) {
+            let name = space.mapping_name(*mapping);
+            told.made(format!(in alloc; "mapping {name} is {how}"));
+        }
+    }
 }
 
 // The words on an update that is otherwise now.

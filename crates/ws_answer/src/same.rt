@@ -1,10 +1,9 @@
 //! `--at`: that a question is still the one that it was after a record.
 
-use std::alloc::Global;
-use ws_done::{refuse, refuse_with};
+use std::alloc::{AllocError, Global};
 use ws_fault::Refusal;
 use ws_question::{AskedNow, question_lines};
-use ws_report::CANDIDATES;
+use ws_report::{CANDIDATES, refuse, refuse_with};
 use ws_run::{Question, Reason};
 use ws_space::Space;
 
@@ -17,25 +16,41 @@ pub(crate) fn check_since(
     asked: &AskedNow,
     at: u32,
 ) -> Result<(), Refusal> {
-    let number = asked.number;
     let last = space.at();
     if last < at {
-        let words = format!(in alloc; "the log has no record {at}")?;
-        let hint = format!(in alloc; "it is at {last}")?;
-        return refuse(alloc, words.as_str(), hint.as_str());
+        return refuse_later(alloc, last, at);
     }
     if at < space.first {
-        let words = format!(in alloc; "record {at} was folded")?;
-        let hint = format!(in alloc; "look again: questions {number}")?;
-        return refuse(alloc, words.as_str(), hint.as_str());
+        return refuse_folded(alloc, asked.number, at);
     }
     if at == last || asked_so(alloc, past, asked)? {
         return Ok(());
     }
+    refuse_other(alloc, space, asked, at)
+}
+
+fn refuse_later(alloc: Global, last: u32, at: u32) -> Result<(), Refusal> {
+    let words = format!(in alloc; "the log has no record {at}")?;
+    let hint = format!(in alloc; "it is at {last}")?;
+    refuse(alloc, words.as_str(), hint.as_str())
+}
+
+fn refuse_folded(alloc: Global, number: u32, at: u32) -> Result<(), Refusal> {
+    let words = format!(in alloc; "record {at} was folded")?;
+    let hint = look_again(alloc, number)?;
+    refuse(alloc, words.as_str(), hint.as_str())
+}
+
+fn refuse_other(alloc: Global, space: &Space, asked: &AskedNow, at: u32) -> Result<(), Refusal> {
+    let number = asked.number;
     let words = format!(in alloc; "the question of {number} is another than at {at}")?;
-    let hint = format!(in alloc; "look again: questions {number}")?;
+    let hint = look_again(alloc, number)?;
     let lines = question_lines(alloc, space, asked, None, CANDIDATES)?;
     refuse_with(alloc, words.as_str(), hint.as_str(), lines)
+}
+
+fn look_again(alloc: Global, number: u32) -> Result<String, AllocError> {
+    format!(in alloc; "look again: questions {number}")
 }
 
 // Whether the update asked this question in the past.

@@ -5,10 +5,9 @@ use crate::replaying::{ReplayWords, replay};
 use def_memory::Memory;
 use std::alloc::{AllocError, Global};
 use std::collections::BTreeSet;
-use ws_done::{Done, refuse};
 use ws_fault::Refusal;
 use ws_question::status_of;
-use ws_report::{Note, ranges_text};
+use ws_report::{Done, Note, ranges_text, refuse};
 use ws_space::Space;
 use ws_written::Line;
 
@@ -21,10 +20,7 @@ struct Parted {
 
 // Parts the numbers, each once, by whether their updates are there and undone or not, as is wanted.
 fn part(alloc: Global, space: &Space, numbers: &[u32], is_undone: bool) -> Result<Parted, Refusal> {
-    let mut rising = BTreeSet::new(alloc);
-    for number in numbers {
-        rising.insert(*number)?;
-    }
+    let rising = in_order(alloc, numbers)?;
     let mut parted = Parted {
         take: Vec::new(alloc),
         rest: Vec::new(alloc),
@@ -38,6 +34,14 @@ fn part(alloc: Global, space: &Space, numbers: &[u32], is_undone: bool) -> Resul
         }
     }
     Ok(parted)
+}
+
+fn in_order(alloc: Global, numbers: &[u32]) -> Result<BTreeSet<u32>, Refusal> {
+    let mut rising = BTreeSet::new(alloc);
+    for number in numbers {
+        rising.insert(*number)?;
+    }
+    Ok(rising)
 }
 
 // A hint about these numbers, if there are any.

@@ -8,7 +8,7 @@ fn is_printed(digits: &str) -> bool {
     match digits.as_bytes() {
         [] => false,
         [b'0', ..] => false,
-        bytes => bytes.iter().all(|b| b.is_ascii_digit()),
+        _ => are_digits(digits),
     }
 }
 
@@ -33,7 +33,12 @@ pub(crate) fn unknown_parts(cell: &str) -> Option<(&str, &str)> {
 }
 
 fn are_digits(text: &str) -> bool {
-    !text.is_empty() && text.bytes().all(|b| b.is_ascii_digit())
+    for byte in text.as_bytes() {
+        if !byte.is_ascii_digit() {
+            return false;
+        }
+    }
+    !text.is_empty()
 }
 
 /// The unknown of a cell `?U.P`, if it is among those that stand, which are in order.

@@ -33,18 +33,28 @@ pub(crate) fn made_name(alloc: Global, name: &str) -> Result<String, AllocError>
         return String::from_str(alloc, "c");
     }
     let made = with_underscores(alloc, name)?;
-    if made.as_str().starts_with(|c: char| c.is_ascii_alphabetic()) {
-        return Ok(made);
+    match made.as_bytes().first() {
+        Some(first) if first.is_ascii_alphabetic() => Ok(made),
+        _ => format!(in alloc; "c{made}"),
     }
-    format!(in alloc; "c{made}")
 }
 
 /// The place of a name; None if it is not there.
 pub(crate) fn place_of(names: &[String], name: &str) -> Option<usize> {
-    names.iter().position(|n| n.as_str() == name)
+    for (place, other) in names.iter().enumerate() {
+        if other.as_str() == name {
+            return Some(place);
+        }
+    }
+    None
 }
 
 /// Whether a name stands twice.
 pub(crate) fn has_twice(names: &[String]) -> bool {
-    names.iter().enumerate().any(|(place, name)| place_of(names, name.as_str()) != Some(place))
+    for (place, name) in names.iter().enumerate() {
+        if place_of(names, name.as_str()) != Some(place) {
+            return true;
+        }
+    }
+    false
 }

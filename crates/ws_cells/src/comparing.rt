@@ -1,9 +1,10 @@
 //! The columns of a file against those of the relation.
 
 use crate::columns::has_twice;
-use crate::refusing::{add_names, faults, has, meant_of};
+use crate::refusing::{add_names, faults, meant_of};
 use std::alloc::{AllocError, Global};
 use ws_fault::Refusal;
+use ws_grammar::has_name;
 use ws_print::{Lines, Text, add_form, add_quoted};
 use ws_written::Relation;
 
@@ -43,7 +44,7 @@ fn add_strangers(
     names: &[String],
 ) -> Result<(), AllocError> {
     for column in header {
-        if has(names, column.as_str()) {
+        if has_name(names, column.as_str()) {
             continue;
         }
         let mut words = Text::new(alloc);
@@ -69,7 +70,7 @@ fn add_missing(
 ) -> Result<(), AllocError> {
     let mut missing = Vec::new(alloc);
     for name in names {
-        if !has(header, name.as_str()) {
+        if !has_name(header, name.as_str()) {
             missing.push(String::from_str(alloc, name.as_str())?)?;
         }
     }

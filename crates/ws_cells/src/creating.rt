@@ -4,13 +4,13 @@ use crate::columns::made_name;
 use crate::forms::Form;
 use crate::refusing::fault;
 use std::alloc::{AllocError, Global};
-use ws_command::{Change, Command, Load, Said};
+use ws_command::Load;
 use ws_fault::{Nearest, Refusal, Status};
-use ws_grammar::{Names, read_command};
+use ws_grammar::read_relation;
 use ws_print::Text;
 use ws_written::Relation;
 
-// The command that declares the relation by the columns that are taken.
+// The relation with the columns that are taken, as `relation` takes it.
 fn declaration(
     alloc: Global,
     load: &Load,
@@ -19,7 +19,7 @@ fn declaration(
 ) -> Result<String, AllocError> {
     let name = load.relation.as_str();
     let mut line = Text::new(alloc);
-    write!(line, "relation {name}(");
+    write!(line, "{name}(");
     let taken = match &form.columns {
         Some(chosen) => chosen.as_slice(),
         None => header,
@@ -55,7 +55,7 @@ fn no_relation<T>(
     let mut hint = nearest_relation(alloc, relations, name)?;
     if hint.is_none() {
         if let Some(line) = line {
-            hint = Some(format!(in alloc; "make it: {line}, or load it with --create")?);
+            hint = Some(format!(in alloc; "make it: relation {line}, or load it with --create")?);
         }
     }
     fault(alloc, Status::Refused, words, hint)
@@ -75,47 +75,29 @@ pub(crate) fn created(
         return no_relation(alloc, relations, name, Some(line));
     }
     let relation = declared(alloc, line.as_str())?;
-    let same = relations
-        .iter()
-        .any(|r| r.name.as_str().eq_ignore_ascii_case(name));
-    if same {
+    if is_declared(relations, name) {
         return no_relation(alloc, relations, name, None);
     }
     Ok(relation)
 }
 
+// Whether a relation has this name, but for capitals.
+fn is_declared(relations: &[Relation], name: &str) -> bool {
+    for relation in relations {
+        if relation.name.as_str().eq_ignore_ascii_case(name) {
+            return true;
+        }
+    }
+    false
+}
+
 // The relation that a line declares; a fault of the line has no place, since nobody said the line.
 fn declared(alloc: Global, line: &str) -> Result<Relation, Refusal> {
-    let names = Names {
-        relations: &[],
-        mappings: &[],
-    };
-    match read_command(alloc, &names, line) {
-        Ok(Some(said)) => relation_of(alloc, said),
-        Ok(None) => unfit(alloc),
-        Err(Refusal::Memory) => Err(Refusal::Memory),
+    match read_relation(alloc, line) {
         Err(Refusal::Fault(mut fault)) => {
             fault.place = None;
             Err(Refusal::Fault(fault))
         }
+        other => other,
     }
-}
-
-fn relation_of(alloc: Global, said: Said) -> Result<Relation, Refusal> {
-    let Said {
-        command,
-        comment: _,
-    } = said;
-    match command {
-        Command::Change {
-            change: Change::Relation(relation),
-            still: _,
-        } => Ok(relation),
-        _ => unfit(alloc),
-    }
-}
-
-fn unfit<T>(alloc: Global) -> Result<T, Refusal> {
-    let words = String::from_str(alloc, "the columns do not make a relation")?;
-    fault(alloc, Status::Refused, words, None)
 }

@@ -5,10 +5,11 @@ use crate::creating::created;
 use crate::forms::Form;
 use crate::matching::{FittedColumn, column_names, fitted_columns};
 use crate::readers::CsvRow;
-use crate::refusing::{add_names, fault, has, meant_of};
+use crate::refusing::{add_names, fault, meant_of};
 use std::alloc::{AllocError, Global};
 use ws_command::Load;
 use ws_fault::{Refusal, Status};
+use ws_grammar::{has_name, place_of};
 use ws_print::{Text, add_escaped};
 use ws_written::Relation;
 
@@ -38,8 +39,7 @@ pub fn fit(
     let header = header_of(alloc, first.cells.as_slice())?;
     has_chosen(alloc, form, path, header.as_slice())?;
     let name = load.relation.as_str();
-    let there = relations.iter().position(|r| r.name.as_str() == name);
-    if let Some(number) = there {
+    if let Some(number) = place_of(relations, name) {
         if let Some(relation) = relations.get(number) {
             let columns = fitted_columns(alloc, form, path, first.line, relation, &header)?;
             return Ok(Fitted {
@@ -83,7 +83,7 @@ fn has_chosen(alloc: Global, form: &Form, path: &str, header: &[String]) -> Resu
         return Ok(());
     };
     for name in chosen.iter() {
-        if !has(header, name.as_str()) {
+        if !has_name(header, name.as_str()) {
             return no_column(alloc, path, name.as_str(), header);
         }
     }
@@ -95,23 +95,19 @@ fn no_column(alloc: Global, path: &str, name: &str, header: &[String]) -> Result
     write!(words, "{path} has no column ");
     add_escaped(&mut words, name);
     let words = words.done()?;
-    let mut hint = meant_of(alloc, name, header)?;
-    if hint.is_none() {
-        let mut known = Text::from_str(alloc, "it has ");
-        add_names(&mut known, header);
-        let known = known.done()?;
-        hint = Some(known);
-    }
-    let hint = escaped(alloc, &hint)?;
-    fault(alloc, Status::Refused, words, hint)
+    let hint = meant_or_known(alloc, name, header)?;
+    fault(alloc, Status::Refused, words, Some(hint))
 }
 
-fn escaped(alloc: Global, text: &Option<String>) -> Result<Option<String>, AllocError> {
-    let Some(text) = text else {
-        return Ok(None);
-    };
-    let mut out = Text::new(alloc);
-    add_escaped(&mut out, text.as_str());
-    let out = out.done()?;
-    Ok(Some(out))
+// The question whether one of the names was meant, or all of them.
+fn meant_or_known(alloc: Global, name: &str, names: &[String]) -> Result<String, AllocError> {
+    let mut hint = Text::new(alloc);
+    match meant_of(alloc, name, names)? {
+        Some(question) => add_escaped(&mut hint, question.as_str()),
+        None => {
+            hint.push_str("it has ");
+            add_names(&mut hint, names);
+        }
+    }
+    hint.done()
 }

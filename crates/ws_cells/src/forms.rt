@@ -4,6 +4,7 @@ use crate::refusing::fault;
 use std::alloc::{AllocError, Global};
 use ws_command::Load;
 use ws_fault::{Refusal, Status};
+use ws_print::Lines;
 
 /// What an empty cell is.
 #[derive(Clone, Copy, PartialEq, Eq)]
@@ -25,7 +26,7 @@ pub struct Form {
     pub empty: Empty,
     /// The words that make a cell an empty one.
     pub nulls: Vec<String>,
-    /// The columns whose cells are all texts.
+    /// The columns whose cells are all texts; an empty one among them is none.
     pub texts: Vec<String>,
     /// The columns of the file that are taken, in the order of the relation's; none means all, by their names.
     pub columns: Option<Vec<String>>,
@@ -61,24 +62,18 @@ fn empty_of(word: &str) -> Option<Empty> {
     }
 }
 
-// The parts of a word between commas.
+// The parts of a word between commas; an empty one if the word is empty.
 fn parts_of(alloc: Global, word: &str) -> Result<Vec<String>, AllocError> {
-    let mut parts = Vec::new(alloc);
+    let mut parts = Lines::new(alloc);
     for part in word.split(',') {
-        parts.push(String::from_str(alloc, part)?)?;
+        parts.push_str(part);
     }
-    Ok(parts)
+    parts.done()
 }
 
-fn some_parts(alloc: Global, word: &Option<String>) -> Result<Vec<String>, AllocError> {
-    match word {
-        Some(word) => parts_of(alloc, word.as_str()),
-        None => Ok(Vec::new(alloc)),
-    }
-}
-
-fn columns_of(alloc: Global, word: &Option<String>) -> Result<Option<Vec<String>>, AllocError> {
-    match word {
+// The columns that `--columns` names, if it is said.
+fn columns_of(alloc: Global, load: &Load) -> Result<Option<Vec<String>>, AllocError> {
+    match &load.columns {
         Some(word) => Ok(Some(parts_of(alloc, word.as_str())?)),
         None => Ok(None),
     }
@@ -102,14 +97,12 @@ pub fn form_of(alloc: Global, load: &Load) -> Result<Form, Refusal> {
         let words = String::from_str(alloc, EMPTY)?;
         return fault(alloc, Status::Unread, words, None);
     };
-    let mut texts = some_parts(alloc, &load.text)?;
-    texts.retain(|text| !text.is_empty());
     Ok(Form {
         separator,
         empty,
-        nulls: some_parts(alloc, &load.null)?,
-        texts,
-        columns: columns_of(alloc, &load.columns)?,
+        nulls: parts_of(alloc, word_or(&load.null, ""))?,
+        texts: parts_of(alloc, word_or(&load.text, ""))?,
+        columns: columns_of(alloc, load)?,
         unknowns: load.unknowns,
     })
 }

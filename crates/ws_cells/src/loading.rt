@@ -4,10 +4,10 @@ use crate::fitting::Fitted;
 use crate::forms::{Empty, Form};
 use crate::matching::FittedColumn;
 use crate::readers::CsvRow;
-use crate::refusing::has;
 use crate::rows::{Loaded, LoadedRow};
 use crate::values::{Read, read_cell};
 use std::alloc::{AllocError, Global};
+use ws_grammar::has_name;
 use ws_print::{Text, add_count};
 use ws_written::{NewFact, Unknown};
 
@@ -99,14 +99,18 @@ impl<'a> Loading<'a> {
 
     // Whether a cell that is taken is empty.
     fn lacks(&self, row: &CsvRow) -> bool {
-        let mut columns = self.fitted.columns.iter();
-        columns.any(|column| self.cell(row, column).is_empty())
+        for column in self.fitted.columns.iter() {
+            if self.cell(row, column).is_empty() {
+                return true;
+            }
+        }
+        false
     }
 
     // The cell of a column, an empty text if it counts as empty.
     fn cell<'r>(&self, row: &'r CsvRow, column: &FittedColumn) -> &'r str {
         match row.cells.get(column.place) {
-            Some(cell) if !has(self.form.nulls.as_slice(), cell.as_str()) => cell.as_str(),
+            Some(cell) if !has_name(self.form.nulls.as_slice(), cell.as_str()) => cell.as_str(),
             _ => "",
         }
     }
@@ -114,7 +118,7 @@ impl<'a> Loading<'a> {
     // The tuple of a row; values that are at fault are left out of it.
     fn fact(&mut self, number: u64, row: &CsvRow) -> Result<NewFact, AllocError> {
         let fitted = self.fitted;
-        let mut values = Vec::new(self.alloc);
+        let mut values = Vec::with_capacity(self.alloc, fitted.columns.len())?;
         for column in fitted.columns.iter() {
             let cell = self.cell(row, column);
             match read_cell(self.alloc, self.form, self.standing, column, cell)? {

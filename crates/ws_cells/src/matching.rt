@@ -3,9 +3,10 @@
 use crate::columns::place_of;
 use crate::comparing::has_same;
 use crate::forms::Form;
-use crate::refusing::{fault, has, meant_of};
+use crate::refusing::{fault, meant_of};
 use std::alloc::{AllocError, Global};
 use ws_fault::{Refusal, Status};
+use ws_grammar::has_name;
 use ws_print::{Text, add_count, add_escaped, add_form};
 use ws_written::Relation;
 
@@ -68,11 +69,14 @@ fn placed(
     header: &[String],
 ) -> Result<Vec<FittedColumn>, Refusal> {
     let mut columns = Vec::new(alloc);
-    for (name, cell) in names.iter().zip(taken) {
+    for (place, name) in names.iter().enumerate() {
+        let Some(cell) = taken.get(place) else {
+            break;
+        };
         columns.push(FittedColumn {
             name: String::from_str(alloc, name.as_str())?,
             place: place_of(header, cell.as_str()).unwrap_or(0),
-            as_text: has(form.texts.as_slice(), name.as_str()),
+            as_text: has_name(form.texts.as_slice(), name.as_str()),
         })?;
     }
     Ok(columns)
@@ -86,7 +90,7 @@ fn has_texts(
     names: &[String],
 ) -> Result<(), Refusal> {
     for text in form.texts.iter() {
-        if !has(names, text.as_str()) {
+        if !text.is_empty() && !has_name(names, text.as_str()) {
             let name = relation.name.as_str();
             let mut words = Text::new(alloc);
             write!(words, "{name} has no column ");

@@ -1,5 +1,6 @@
 //! The rows of a text, cell by cell, each with the line that it begins in.
 
+use crate::written::count_ends;
 use std::alloc::{AllocError, Global};
 use ws_print::Text;
 
@@ -142,8 +143,7 @@ impl<'a> CsvReader<'a> {
 
     // A part of a quoted cell, with the lines that it ends.
     fn add_part(&mut self, cell: &mut Text, part: &str) {
-        let ends = part.bytes().filter(|b| *b == b'\n').count();
-        self.line = self.line.saturating_add(ends as u64);
+        self.line = self.line.saturating_add(count_ends(part.as_bytes()));
         cell.push_str(part)
     }
 

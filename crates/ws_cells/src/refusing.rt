@@ -2,7 +2,7 @@
 
 use std::alloc::{AllocError, Global};
 use ws_fault::{Fault, Nearest, Refusal, Status};
-use ws_print::Text;
+use ws_print::{Text, add_escaped};
 
 /// A fault without a place.
 pub(crate) fn fault<T>(
@@ -48,15 +48,10 @@ pub(crate) fn meant_of(
     nearest.question()
 }
 
-/// Whether a name stands among others.
-pub(crate) fn has(names: &[String], name: &str) -> bool {
-    names.iter().any(|n| n.as_str() == name)
-}
-
-/// The names between commas.
+/// The names between commas, with control characters escaped.
 pub(crate) fn add_names(out: &mut Text, names: &[String]) {
     for (place, name) in names.iter().enumerate() {
         out.push_str(if 0 < place { ", " } else { "" });
-        out.push_str(name.as_str());
+        add_escaped(out, name.as_str());
     }
 }

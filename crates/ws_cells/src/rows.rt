@@ -7,7 +7,7 @@ use crate::readers::{CsvFault, CsvReader};
 use crate::refusing::faults;
 use std::alloc::{AllocError, Global};
 use ws_fault::Refusal;
-use ws_print::{Text, add_count};
+use ws_print::{Lines, Text, add_count};
 use ws_written::{NewFact, Unknown};
 
 /// A row, and its tuple.
@@ -45,52 +45,58 @@ pub fn facts_of(
         loading.add_row(number, &row)?;
     }
     let (loaded, found) = loading.parts();
-    let all = all_faults(alloc, reader.faults(), found)?;
+    let all = all_faults(alloc, reader.faults(), found.as_slice())?;
     if all.is_empty() {
         return Ok(loaded);
     }
     refused(alloc, path, all)
 }
 
-fn refused(alloc: Global, path: &str, all: Vec<RowFault>) -> Result<Loaded, Refusal> {
+fn refused(alloc: Global, path: &str, all: Vec<String>) -> Result<Loaded, Refusal> {
     let mut words = Text::new(alloc);
     write!(words, "{path} has ");
     add_count(&mut words, all.len(), "fault");
     words.push_str("; nothing was loaded");
     let words = words.done()?;
-    let mut more = Vec::new(alloc);
-    for fault in all.iter() {
-        let line = fault.line;
-        let told = fault.words.as_str();
-        more.push(format!(in alloc; "line {line}: {told}")?)?;
-    }
-    faults(words, None, more)
+    faults(words, None, all)
 }
 
-fn quote_fault(alloc: Global, fault: &CsvFault) -> Result<RowFault, AllocError> {
-    let (line, words) = match fault {
-        CsvFault::Open(line) => (*line, "a quote is not closed"),
-        CsvFault::After(line) => (*line, "something follows a closing quote"),
-    };
-    Ok(RowFault {
-        line,
-        words: String::from_str(alloc, words)?,
-    })
-}
-
-// All faults by line, those of quotes before others of a line.
+// All faults by line, those of quotes before others of a line. Both stand in the order of the file.
 fn all_faults(
     alloc: Global,
     quotes: &[CsvFault],
-    rows: Vec<RowFault>,
-) -> Result<Vec<RowFault>, AllocError> {
-    let mut all = Vec::new(alloc);
-    for fault in quotes {
-        all.push(quote_fault(alloc, fault)?)?;
-    }
+    rows: &[RowFault],
+) -> Result<Vec<String>, AllocError> {
+    let mut all = Lines::new(alloc);
+    let mut quotes = quotes;
     for fault in rows {
-        all.push(fault)?;
+        quotes = add_quotes(alloc, &mut all, quotes, fault.line);
+        all.made(told(alloc, fault.line, fault.words.as_str()));
     }
-    all.sort_by_key(|fault| fault.line)?;
-    Ok(all)
+    add_quotes(alloc, &mut all, quotes, u64::MAX);
+    all.done()
+}
+
+// Adds the faults of quotes up to this line, and leaves the others.
+fn add_quotes<'a>(
+    alloc: Global,
+    all: &mut Lines,
+    quotes: &'a [CsvFault],
+    last: u64,
+) -> &'a [CsvFault] {
+    for (place, fault) in quotes.iter().enumerate() {
+        let (line, words) = match fault {
+            CsvFault::Open(line) => (*line, "a quote is not closed"),
+            CsvFault::After(line) => (*line, "something follows a closing quote"),
+        };
+        if last < line {
+            return quotes.get(place..).unwrap_or(quotes);
+        }
+        all.made(told(alloc, line, words));
+    }
+    &[]
+}
+
+fn told(alloc: Global, line: u64, words: &str) -> Result<String, AllocError> {
+    format!(in alloc; "line {line}: {words}")
 }

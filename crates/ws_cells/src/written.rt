@@ -5,14 +5,25 @@ use std::alloc::Global;
 use ws_fault::{Refusal, Status};
 use ws_print::Text;
 
+/// How many lines the bytes end.
+pub(crate) fn count_ends(bytes: &[u8]) -> u64 {
+    let mut count = 0u64;
+    for byte in bytes {
+        if *byte == b'\n' {
+            count = count.saturating_add(1);
+        }
+    }
+    count
+}
+
 /// The text of a file's bytes; a file that is not UTF-8 is refused, with the place of the first byte that is none.
 pub fn text_of<'a>(alloc: Global, path: &str, bytes: &'a [u8]) -> Result<&'a str, Refusal> {
     match str::from_utf8(bytes) {
         Ok(text) => Ok(text),
         Err(error) => {
             let at = error.valid_up_to();
-            let ends = bytes.iter().take(at).filter(|b| **b == b'\n').count();
-            let line = ends.saturating_add(1);
+            let before = bytes.get(..at).unwrap_or(bytes);
+            let line = count_ends(before).saturating_add(1);
             let words = format!(in alloc; "{path} is not UTF-8, at byte {at}, line {line}")?;
             let hint = String::from_str(alloc, "convert it: iconv -f latin1 -t utf8")?;
             fault(alloc, Status::Refused, words, Some(hint))
@@ -22,11 +33,7 @@ pub fn text_of<'a>(alloc: Global, path: &str, bytes: &'a [u8]) -> Result<&'a str
 
 // Whether a cell has to stand between quotes.
 fn is_quoted(text: &str) -> bool {
-    text.is_empty()
-        || text.trim().len() != text.len()
-        || text
-            .bytes()
-            .any(|b| b == b'"' || b == b',' || b == b'\r' || b == b'\n')
+    text.is_empty() || text.trim().len() != text.len() || text.contains(['"', ',', '\r', '\n'])
 }
 
 /// Adds a text as a cell: between quotes, its quotes doubled, if it would else be read as another one. It is refused only

@@ -7,11 +7,10 @@ use base_types::Tuple;
 use def_memory::Memory;
 use std::alloc::{AllocError, Global};
 use std::collections::BTreeSet;
-use ws_done::{Done, Taken, add_line, spent, take_update};
 use ws_fault::{Refusal, Status};
 use ws_print::Lines;
 use ws_question::count_text;
-use ws_report::{Counted, Report, ranges_text};
+use ws_report::{Counted, Done, Report, Taken, add_line, ranges_text, spent, take_update};
 use ws_space::Space;
 use ws_state::Mark;
 use ws_written::{Line, Update};
@@ -166,19 +165,17 @@ impl Repairs {
     }
 
     // How many violations were repaired, and how many repairs ask.
-    fn told(&self, alloc: Global) -> Result<Vec<String>, Memory> {
+    fn told(&self, alloc: Global) -> Result<Lines, Memory> {
         let mut told = Lines::new(alloc);
-        if !self.fixed.is_empty() {
-            let count = count_text(alloc, self.fixed.len(), "violation")?;
-            let numbers = ranges_text(alloc, self.fixed.as_slice())?;
-            told.made(format!(in alloc; "{count} repaired by {numbers}"));
-        }
-        if !self.asks.is_empty() {
-            let count = count_text(alloc, self.asks.len(), "question")?;
-            let numbers = ranges_text(alloc, self.asks.as_slice())?;
-            told.made(format!(in alloc; "{count}: {numbers}"));
-        }
-        Ok(told.done()?)
+        add_numbers(
+            alloc,
+            &mut told,
+            self.fixed.as_slice(),
+            "violation",
+            " repaired by ",
+        )?;
+        add_numbers(alloc, &mut told, self.asks.as_slice(), "question", ": ")?;
+        Ok(told)
     }
 
     fn adopted(&self, alloc: Global, space: &mut Space, name: &str) -> Result<Repaired, Refusal> {
@@ -203,7 +200,8 @@ impl Repairs {
         number: u32,
     ) -> Result<Report, Memory> {
         let mut also = self.told(alloc)?;
-        also.push(format!(in alloc; "{name} is in force from {number} on")?)?;
+        also.made(format!(in alloc; "{name} is in force from {number} on"));
+        let also = also.done()?;
         let counted = counted(alloc, self.fixed.as_slice(), &[])?;
         let line = line_of(alloc, name)?;
         let effect = space.state.effect_since(alloc, self.mark)?;
@@ -222,12 +220,8 @@ impl Repairs {
         name: &str,
         left: usize,
     ) -> Result<Report, Memory> {
-        let mut also = self.told(alloc)?;
-        let left = count_text(alloc, left, "violation")?;
-        also.push(format!(in alloc; "{name} is not in force yet: {left} left")?)?;
-        let mut next = Vec::new(alloc);
-        next.push(String::from_str(alloc, "questions")?)?;
-        next.push(line_of(alloc, name)?)?;
+        let also = self.left_words(alloc, name, left)?;
+        let next = next_of(alloc, name)?;
         let counted = counted(alloc, self.fixed.as_slice(), self.asks.as_slice())?;
         let line = line_of(alloc, name)?;
         let effect = space.state.effect_since(alloc, self.mark)?;
@@ -237,6 +231,39 @@ impl Repairs {
         report.counted = Some(counted);
         Ok(report)
     }
+
+    // That so many violations are left.
+    fn left_words(&self, alloc: Global, name: &str, left: usize) -> Result<Vec<String>, Memory> {
+        let mut also = self.told(alloc)?;
+        let left = count_text(alloc, left, "violation")?;
+        also.made(format!(in alloc; "{name} is not in force yet: {left} left"));
+        Ok(also.done()?)
+    }
+}
+
+// What may be said next if violations are left.
+fn next_of(alloc: Global, name: &str) -> Result<Vec<String>, AllocError> {
+    let mut next = Lines::new(alloc);
+    next.push_str("questions");
+    next.made(line_of(alloc, name));
+    next.done()
+}
+
+// How many there are, and their numbers, if there are any.
+fn add_numbers(
+    alloc: Global,
+    told: &mut Lines,
+    numbers: &[u32],
+    noun: &str,
+    between: &str,
+) -> Result<(), Memory> {
+    if numbers.is_empty() {
+        return Ok(());
+    }
+    let count = count_text(alloc, numbers.len(), noun)?;
+    let ranges = ranges_text(alloc, numbers)?;
+    told.made(format!(in alloc; "{count}{between}{ranges}"));
+    Ok(())
 }
 
 // The update that makes the repair.

@@ -16,10 +16,14 @@ type Leads = BTreeMap<u32, Ways>;
 
 // Whether each variable of the atom stands on the left.
 fn is_plain(rule: &Rule, atom: &Atom) -> bool {
-    atom.terms.iter().all(|term| match term {
-        Term::Variable(name) => stands_among(rule.left.as_slice(), name.as_str()),
-        _ => true,
-    })
+    for term in atom.terms.iter() {
+        if let Term::Variable(name) = term {
+            if !stands_among(rule.left.as_slice(), name.as_str()) {
+                return false;
+            }
+        }
+    }
+    true
 }
 
 fn add_way(
@@ -83,11 +87,18 @@ struct Walk {
 }
 
 impl Walk {
+    // The stop before this one on its way, if there is one.
+    fn before(&self, stop: Stop) -> Option<Stop> {
+        self.stops.get(stop.before?).copied()
+    }
+
     fn has(&self, relation: u32) -> bool {
-        self.stops
-            .iter()
-            .skip(1)
-            .any(|stop| stop.relation == relation)
+        for stop in self.stops.iter().skip(1) {
+            if stop.relation == relation {
+                return true;
+            }
+        }
+        false
     }
 
     // Goes on from a stop to the relations to which it leads.
@@ -168,7 +179,7 @@ fn steps_text(
     let mut text = String::new(alloc);
     let mut last = closing;
     for _ in 0..walk.stops.len().saturating_add(1) {
-        let Some(before) = last.before.and_then(|place| walk.stops.get(place).copied()) else {
+        let Some(before) = walk.before(last) else {
             break;
         };
         let step = step_text(alloc, space, rule, before.relation, last)?;

@@ -1,9 +1,8 @@
 //! `drop`.
 
 use std::alloc::Global;
-use ws_done::{Done, Taken, recorded, take_update, told_line};
 use ws_fault::{Refusal, Status};
-use ws_report::{Note, Report};
+use ws_report::{Done, Note, Report, Taken, recorded, take_update, told_line};
 use ws_space::Space;
 use ws_written::{Line, STEPS, Update};
 
@@ -37,7 +36,7 @@ fn dropped(
 /// Whether the mapping of this name is in force.
 pub(crate) fn is_in_force(space: &Space, name: &str) -> bool {
     match space.mapping(name) {
-        Some(mapping) => space.state.in_force().iter().any(|other| *other == mapping),
+        Some(mapping) => space.state.in_force().contains(&mapping),
         None => false,
     }
 }

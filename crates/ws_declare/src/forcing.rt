@@ -1,8 +1,8 @@
 //! Putting a mapping in force.
 
 use std::alloc::Global;
-use ws_done::{Taken, take_update};
 use ws_fault::Refusal;
+use ws_report::{Taken, take_update};
 use ws_space::Space;
 use ws_written::{STEPS, Update};
 

@@ -84,52 +84,75 @@ fn add_lone(
     Ok(())
 }
 
-fn is_constant(term: &Term) -> bool {
-    match term {
-        Term::Variable(_) => false,
-        _ => true,
+fn has_variable(atom: &Atom) -> bool {
+    for term in atom.terms.iter() {
+        if let Term::Variable(_) = term {
+            return true;
+        }
     }
+    false
 }
 
 // Whether the atoms have a variable in common.
 fn share(one: &Atom, others: &[Atom]) -> bool {
-    one.terms.iter().any(|term| match term {
-        Term::Variable(name) => stands_among(others, name.as_str()),
-        _ => false,
-    })
+    for term in one.terms.iter() {
+        if let Term::Variable(name) = term {
+            if stands_among(others, name.as_str()) {
+                return true;
+            }
+        }
+    }
+    false
 }
 
 fn share_two(one: &Atom, other: &Atom) -> bool {
-    one.terms.iter().any(|term| match term {
-        Term::Variable(name) => stands_in(other, name.as_str()),
-        _ => false,
-    })
+    for term in one.terms.iter() {
+        if let Term::Variable(name) = term {
+            if stands_in(other, name.as_str()) {
+                return true;
+            }
+        }
+    }
+    false
 }
 
 // Whether the atom shares a variable with one of those that are linked.
 fn is_reached(atoms: &[Atom], linked: &[bool], atom: &Atom) -> bool {
-    atoms
-        .iter()
-        .zip(linked)
-        .any(|(other, is_linked)| *is_linked && share_two(atom, other))
+    for (place, other) in atoms.iter().enumerate() {
+        if linked.get(place).copied() == Some(true) && share_two(atom, other) {
+            return true;
+        }
+    }
+    false
 }
 
 // For each atom of the right side whether it shares a variable with the left one, directly or through others, or has none.
 fn linked_of(alloc: Global, rule: &Rule) -> Result<Vec<bool>, Memory> {
-    let left = rule.left.as_slice();
     let right = rule.right.as_slice();
-    let mut linked = Vec::new(alloc);
-    for atom in right {
-        linked.push(share(atom, left) || atom.terms.iter().all(is_constant))?;
-    }
+    let mut linked = directly_linked(alloc, rule)?;
     for _ in right {
-        let mut next = Vec::new(alloc);
-        for (atom, is_linked) in right.iter().zip(linked.iter()) {
-            next.push(*is_linked || is_reached(right, linked.as_slice(), atom))?;
-        }
-        linked = next;
+        linked = further_linked(alloc, right, linked.as_slice())?;
     }
     Ok(linked)
+}
+
+// For each atom of the right side whether it shares a variable with the left one, or has none.
+fn directly_linked(alloc: Global, rule: &Rule) -> Result<Vec<bool>, Memory> {
+    let mut linked = Vec::new(alloc);
+    for atom in rule.right.iter() {
+        linked.push(share(atom, rule.left.as_slice()) || !has_variable(atom))?;
+    }
+    Ok(linked)
+}
+
+// Those that are linked, and those that share a variable with one of them.
+fn further_linked(alloc: Global, atoms: &[Atom], linked: &[bool]) -> Result<Vec<bool>, Memory> {
+    let mut further = Vec::new(alloc);
+    for (place, atom) in atoms.iter().enumerate() {
+        let is_linked = linked.get(place).copied() == Some(true);
+        further.push(is_linked || is_reached(atoms, linked, atom))?;
+    }
+    Ok(further)
 }
 
 fn add_unlinked(
@@ -139,18 +162,19 @@ fn add_unlinked(
     notes: &mut Vec<Note>,
 ) -> Result<(), Memory> {
     let linked = linked_of(alloc, rule)?;
-    for (atom, is_linked) in rule.right.iter().zip(linked.iter()) {
-        if *is_linked {
-            continue;
+    for (place, atom) in rule.right.iter().enumerate() {
+        if linked.get(place).copied() == Some(false) {
+            notes.push(Note::of(alloc, unlinked_words(alloc, space, atom)?))?;
         }
-        let mut words = Text::new(alloc);
-        add_atom(&mut words, space.relations.as_slice(), atom);
-        let relation = relation_name(space, atom.relation);
-        words.push_str(" shares no variable with the left side: any tuple of ");
-        words.push_str(relation);
-        words.push_str(" will do");
-        let words = words.done()?;
-        notes.push(Note::of(alloc, words))?;
     }
     Ok(())
+}
+
+fn unlinked_words(alloc: Global, space: &Space, atom: &Atom) -> Result<String, Memory> {
+    let mut words = Text::new(alloc);
+    add_atom(&mut words, space.relations.as_slice(), atom);
+    words.push_str(" shares no variable with the left side: any tuple of ");
+    words.push_str(relation_name(space, atom.relation));
+    words.push_str(" will do");
+    Ok(words.done()?)
 }

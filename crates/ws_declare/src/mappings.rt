@@ -5,9 +5,9 @@ use crate::dropping::is_in_force;
 use crate::speaking::speaker_of;
 use def_memory::Memory;
 use std::alloc::Global;
-use ws_done::refuse;
 use ws_fault::Refusal;
 use ws_grammar::set_apart;
+use ws_report::refuse;
 use ws_space::{Space, copy_rule};
 use ws_written::{Atom, Rule, Term};
 
@@ -34,21 +34,29 @@ fn same_term(one: &Term, other: &Term) -> bool {
 }
 
 fn same_atom(one: &Atom, other: &Atom) -> bool {
-    one.relation == other.relation
-        && one.terms.len() == other.terms.len()
-        && one
-            .terms
-            .iter()
-            .zip(other.terms.iter())
-            .all(|(one, other)| same_term(one, other))
+    if one.relation != other.relation || one.terms.len() != other.terms.len() {
+        return false;
+    }
+    for (place, term) in one.terms.iter().enumerate() {
+        match other.terms.get(place) {
+            Some(other) if same_term(term, other) => {}
+            _ => return false,
+        }
+    }
+    true
 }
 
-fn same_atoms(one: &[Atom], other: &[Atom]) -> bool {
-    one.len() == other.len()
-        && one
-            .iter()
-            .zip(other)
-            .all(|(one, other)| same_atom(one, other))
+fn same_atoms(ones: &[Atom], others: &[Atom]) -> bool {
+    if ones.len() != others.len() {
+        return false;
+    }
+    for (place, atom) in ones.iter().enumerate() {
+        match others.get(place) {
+            Some(other) if same_atom(atom, other) => {}
+            _ => return false,
+        }
+    }
+    true
 }
 
 /// The name of the relation of this number; empty if there is none.
@@ -132,15 +140,24 @@ fn count_others(space: &Space, name: &str) -> usize {
 
 /// Whether the variable of this name stands in the atom.
 pub(crate) fn stands_in(atom: &Atom, name: &str) -> bool {
-    atom.terms.iter().any(|term| match term {
-        Term::Variable(variable) => variable.as_str() == name,
-        _ => false,
-    })
+    for term in atom.terms.iter() {
+        if let Term::Variable(variable) = term {
+            if variable.as_str() == name {
+                return true;
+            }
+        }
+    }
+    false
 }
 
 /// Whether the variable of this name stands in one of the atoms.
 pub(crate) fn stands_among(atoms: &[Atom], name: &str) -> bool {
-    atoms.iter().any(|atom| stands_in(atom, name))
+    for atom in atoms {
+        if stands_in(atom, name) {
+            return true;
+        }
+    }
+    false
 }
 
 // How many variables of the atom stand on the right side, and in no atom before it.
@@ -149,22 +166,33 @@ fn count_new_shared(rule: &Rule, place: usize, atom: &Atom) -> usize {
     for (column, term) in atom.terms.iter().enumerate() {
         if let Term::Variable(name) = term {
             let name = name.as_str();
-            let before = rule
-                .left
-                .iter()
-                .take(place)
-                .any(|other| stands_in(other, name));
-            let above = atom
-                .terms
-                .iter()
-                .take(column)
-                .any(|other| same_term(other, term));
-            if !before && !above && stands_among(rule.right.as_slice(), name) {
+            let is_old = stood_above(rule, place, name) || stood_before(atom, column, term);
+            if !is_old && stands_among(rule.right.as_slice(), name) {
                 count = count.saturating_add(1);
             }
         }
     }
     count
+}
+
+// Whether the variable of this name stands in one of so many first atoms of the left side.
+fn stood_above(rule: &Rule, count: usize, name: &str) -> bool {
+    for atom in rule.left.iter().take(count) {
+        if stands_in(atom, name) {
+            return true;
+        }
+    }
+    false
+}
+
+// Whether the term stands in one of so many first columns of the atom.
+fn stood_before(atom: &Atom, count: usize, term: &Term) -> bool {
+    for other in atom.terms.iter().take(count) {
+        if same_term(other, term) {
+            return true;
+        }
+    }
+    false
 }
 
 // How many variables stand on both sides.

@@ -3,10 +3,10 @@
 use crate::speaking::is_spoken_of;
 use def_memory::Memory;
 use std::alloc::{AllocError, Global};
-use ws_done::{Done, recorded, refuse, told_line};
 use ws_fault::{Refusal, Status};
-use ws_print::{Text, add_form};
-use ws_report::Report;
+use ws_grammar::place_of;
+use ws_print::{Lines, Text, add_form};
+use ws_report::{Done, Report, recorded, refuse, told_line};
 use ws_space::Space;
 use ws_written::{Line, Relation};
 
@@ -32,7 +32,7 @@ pub fn declare_relation(
 
 // Whether the relation is not declared so yet. It is refused if it cannot be declared.
 fn check_relation(alloc: Global, space: &Space, relation: &Relation) -> Result<bool, Refusal> {
-    let Some(place) = place_of(space, relation.name.as_str()) else {
+    let Some(place) = place_of(space.relations.as_slice(), relation.name.as_str()) else {
         check_new(alloc, space, relation.name.as_str())?;
         return Ok(true);
     };
@@ -61,27 +61,28 @@ fn declared(
     Ok(report)
 }
 
-fn place_of(space: &Space, name: &str) -> Option<usize> {
-    space
-        .relations
-        .iter()
-        .position(|other| other.name.as_str() == name)
-}
-
 fn has_same_columns(one: &Relation, other: &Relation) -> bool {
-    one.columns.len() == other.columns.len()
-        && one
-            .columns
-            .iter()
-            .zip(other.columns.iter())
-            .all(|(one, other)| one.name.as_str() == other.name.as_str())
+    if one.columns.len() != other.columns.len() {
+        return false;
+    }
+    for (place, column) in one.columns.iter().enumerate() {
+        match other.columns.get(place) {
+            Some(other) if other.name.as_str() == column.name.as_str() => {}
+            _ => return false,
+        }
+    }
+    true
 }
 
+// Whether the relations, which have the same columns, have the same key.
 fn has_same_key(one: &Relation, other: &Relation) -> bool {
-    one.columns
-        .iter()
-        .zip(other.columns.iter())
-        .all(|(one, other)| one.key == other.key)
+    for (place, column) in one.columns.iter().enumerate() {
+        match other.columns.get(place) {
+            Some(other) if other.key == column.key => {}
+            _ => return false,
+        }
+    }
+    true
 }
 
 fn is_declared(space: &Space, place: usize, relation: &Relation) -> bool {
@@ -118,17 +119,21 @@ fn check_new(alloc: Global, space: &Space, name: &str) -> Result<(), Refusal> {
     let lower = name.to_lowercase(alloc)?;
     for other in space.relations.iter() {
         if is_lower(alloc, other.name.as_str(), lower.as_str())? {
-            let name = other.name.as_str();
-            let words = format!(in alloc;
-                "there is a relation {name}; names differ by more than capitals"
-            )?;
-            return refuse(alloc, words.as_str(), "");
+            return refuse_twin(alloc, other.name.as_str());
         }
     }
     if RELATIONS <= space.relations.len() {
         return refuse(alloc, "there are 100 relations, which is the limit", "");
     }
     Ok(())
+}
+
+// The relation of this name is there, and a new one differs from it by capitals alone.
+fn refuse_twin(alloc: Global, name: &str) -> Result<(), Refusal> {
+    let words = format!(in alloc;
+        "there is a relation {name}; names differ by more than capitals"
+    )?;
+    refuse(alloc, words.as_str(), "")
 }
 
 fn is_lower(alloc: Global, name: &str, lower: &str) -> Result<bool, AllocError> {
@@ -148,8 +153,8 @@ fn next_of(alloc: Global, relation: &Relation) -> Result<Vec<String>, Memory> {
     }
     insert.push(')');
     let insert = insert.done()?;
-    let mut next = Vec::new(alloc);
-    next.push(insert)?;
-    next.push(format!(in alloc; "load {name} FILE.csv")?)?;
-    Ok(next)
+    let mut next = Lines::new(alloc);
+    next.push(insert);
+    next.made(format!(in alloc; "load {name} FILE.csv"));
+    Ok(next.done()?)
 }

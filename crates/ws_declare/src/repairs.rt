@@ -23,10 +23,7 @@ pub(crate) fn waiting_repairs(
         };
         if let Deed::Fix(other, values) = &held.update.deed {
             if *other == mapping {
-                let repair = Tuple::new(alloc, mapping, values.copy(alloc)?)?;
-                if repairs.insert(repair).is_err() {
-                    return Err(Memory);
-                }
+                repairs.insert(Tuple::new(alloc, mapping, values.copy(alloc)?)?)?;
             }
         }
     }
@@ -40,18 +37,29 @@ pub(crate) fn open_repairs(
     mapping: u16,
     waiting: &BTreeSet<Tuple>,
 ) -> Result<Vec<Tuple>, Memory> {
+    let violations = space.violations(alloc, mapping)?;
     let mut repairs = Vec::new(alloc);
-    for violation in space.violations(alloc, mapping)?.iter() {
-        let mut values = ValueList::new(alloc);
-        for value in violation.values.as_slice() {
-            values.push(space.state.names().value(alloc, value)?)?;
-        }
-        let repair = Tuple::new(alloc, mapping, values)?;
+    for violation in violations.iter() {
+        let repair = repair_of(alloc, space, mapping, violation.values.as_slice())?;
         if !waiting.contains(&repair) {
             repairs.push(repair)?;
         }
     }
     Ok(repairs)
+}
+
+// The repair of the violation of a mapping with these values.
+fn repair_of(
+    alloc: Global,
+    space: &Space,
+    mapping: u16,
+    violation: &[Value],
+) -> Result<Tuple, Memory> {
+    let mut values = ValueList::new(alloc);
+    for value in violation {
+        values.push(space.state.names().value(alloc, value)?)?;
+    }
+    Tuple::new(alloc, mapping, values)
 }
 
 // What the value by its name is within; None if it is not there.
@@ -68,16 +76,32 @@ pub(crate) fn is_violated(alloc: Global, space: &Space, repair: &Tuple) -> Resul
         return Ok(false);
     };
     let variables = shared_variables(alloc, mapping)?;
-    let mut binding = Binding::new(alloc);
-    for (variable, value) in variables.iter().zip(repair.values.as_slice()) {
-        match within(alloc, space, value)? {
-            Some(value) => binding.set(*variable, value)?,
-            None => return Ok(false),
-        }
-    }
+    let Some(binding) = binding_of(alloc, space, variables.as_slice(), repair)? else {
+        return Ok(false);
+    };
     let facts = space.state.facts();
     if first_match(alloc, &mapping.left, facts, &binding)?.is_none() {
         return Ok(false);
     }
     Ok(!extends(alloc, &binding, &mapping.right, facts)?)
+}
+
+// The variables bound to the values of the repair; None if one of them is not there.
+fn binding_of(
+    alloc: Global,
+    space: &Space,
+    variables: &[u16],
+    repair: &Tuple,
+) -> Result<Option<Binding>, Memory> {
+    let mut binding = Binding::new(alloc);
+    for (place, value) in repair.values.as_slice().iter().enumerate() {
+        let Some(variable) = variables.get(place) else {
+            break;
+        };
+        match within(alloc, space, value)? {
+            Some(value) => binding.set(*variable, value)?,
+            None => return Ok(None),
+        }
+    }
+    Ok(Some(binding))
 }

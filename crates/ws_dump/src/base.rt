@@ -12,17 +12,28 @@ pub(crate) fn tuples_before(
     space: &Space,
     cut: usize,
 ) -> Result<BTreeSet<Tuple>, Memory> {
+    let mut tuples = tuples_now(alloc, space)?;
+    for standing in space.state.order().as_slice().iter().skip(cut).rev() {
+        take_all_back(&mut tuples, standing.steps.as_slice())?;
+    }
+    tuples.retain(|tuple| tuple.relation < WANT);
+    Ok(tuples)
+}
+
+fn tuples_now(alloc: Global, space: &Space) -> Result<BTreeSet<Tuple>, Memory> {
     let mut tuples = BTreeSet::new(alloc);
     for tuple in space.state.facts().list(alloc)?.into_vec() {
         tuples.insert(tuple)?;
     }
-    for standing in space.state.order().as_slice().iter().skip(cut).rev() {
-        for step in standing.steps.as_slice().iter().rev() {
-            take_back(&mut tuples, step)?;
-        }
-    }
-    tuples.retain(|tuple| tuple.relation < WANT);
     Ok(tuples)
+}
+
+// Takes back what the steps did, the last one first.
+fn take_all_back(tuples: &mut BTreeSet<Tuple>, steps: &[Step]) -> Result<(), Memory> {
+    for step in steps.iter().rev() {
+        take_back(tuples, step)?;
+    }
+    Ok(())
 }
 
 // Takes back what a step did.
@@ -41,6 +52,17 @@ pub(crate) fn places_of(
     alloc: Global,
     tuples: &BTreeSet<Tuple>,
 ) -> Result<BTreeMap<Null, u32>, Memory> {
+    let nulls = nulls_of(alloc, tuples)?;
+    let mut places = BTreeMap::new(alloc);
+    let mut place = 0u32;
+    for null in nulls {
+        place = place.saturating_add(1);
+        places.insert(null, place)?;
+    }
+    Ok(places)
+}
+
+fn nulls_of(alloc: Global, tuples: &BTreeSet<Tuple>) -> Result<BTreeSet<Null>, Memory> {
     let mut nulls = BTreeSet::new(alloc);
     for tuple in tuples {
         for value in tuple.values.as_slice() {
@@ -49,11 +71,5 @@ pub(crate) fn places_of(
             }
         }
     }
-    let mut places = BTreeMap::new(alloc);
-    let mut place = 0u32;
-    for null in nulls {
-        place = place.saturating_add(1);
-        places.insert(null, place)?;
-    }
-    Ok(places)
+    Ok(nulls)
 }

@@ -20,7 +20,7 @@ pub(crate) fn add_comments(
         lines.made(name_line(alloc, space, renaming, *null));
     }
     add_drawn(alloc, lines, space, renaming, cut);
-    for number in waiting_numbers(alloc, space)? {
+    for number in space.waiting_numbers(alloc)? {
         lines.made(waiting_line(alloc, space, number));
     }
     Ok(())
@@ -40,14 +40,7 @@ fn add_base(alloc: Global, lines: &mut Lines, space: &Space, cut: usize) -> Resu
 // The number of the update at a place of the order.
 fn number_at(space: &Space, place: usize) -> u32 {
     match space.state.order().get(place) {
-        Some(standing) => held_number(space, standing.held),
-        None => 0,
-    }
-}
-
-fn held_number(space: &Space, held: usize) -> u32 {
-    match space.state.held().get(held) {
-        Some(held) => held.update.number,
+        Some(standing) => space.number_at(standing.held).unwrap_or(0),
         None => 0,
     }
 }
@@ -80,15 +73,6 @@ fn add_drawn(alloc: Global, lines: &mut Lines, space: &Space, renaming: &Renamin
             }
         }
     }
-}
-
-fn waiting_numbers(alloc: Global, space: &Space) -> Result<Vec<u32>, AllocError> {
-    let mut numbers = Vec::new(alloc);
-    for waiting in space.state.waiting().as_slice() {
-        numbers.push(held_number(space, waiting.held))?;
-    }
-    numbers.sort_unstable();
-    Ok(numbers)
 }
 
 // `# waits: CURATOR N [steps S] UPDATE`.

@@ -62,12 +62,13 @@ impl Weight {
 
 // How many mappings it put in force.
 fn added_by(standing: &Standing) -> usize {
-    standing
-        .ops
-        .as_slice()
-        .iter()
-        .filter(|op| matches!(op.operation, Operation::Enact(_)))
-        .count()
+    let mut added = 0usize;
+    for op in standing.ops.as_slice() {
+        if let Operation::Enact(_) = &op.operation {
+            added = added.saturating_add(1);
+        }
+    }
+    added
 }
 
 /// How many of the updates that stand, from the first on, are in the base of the dump. It is refused only for want of memory.

@@ -39,8 +39,12 @@ impl Hidden {
 
     fn fix_of(&self, repaired: Option<u16>) -> Option<u16> {
         let mapping = repaired?;
-        let fix = self.fixes.iter().find(|fix| fix.mapping == mapping)?;
-        Some(fix.relation)
+        for fix in self.fixes.iter() {
+            if fix.mapping == mapping {
+                return Some(fix.relation);
+            }
+        }
+        None
     }
 }
 
@@ -54,18 +58,23 @@ pub(crate) fn repaired_by(space: &Space, held: usize) -> Option<u16> {
 
 // Whether the update draws new unknowns.
 fn draws(standing: &Standing) -> bool {
-    standing
-        .ops
-        .as_slice()
-        .iter()
-        .any(|op| match &op.operation {
-            Operation::Insert(tuple) => is_drawing(tuple),
-            Operation::Delete(tuple) => is_drawing(tuple),
-            _ => false,
-        })
+    for op in standing.ops.as_slice() {
+        if is_drawing(&op.operation) {
+            return true;
+        }
+    }
+    false
 }
 
-fn is_drawing(tuple: &Tuple) -> bool {
+fn is_drawing(operation: &Operation) -> bool {
+    match operation {
+        Operation::Insert(tuple) => is_hidden(tuple),
+        Operation::Delete(tuple) => is_hidden(tuple),
+        _ => false,
+    }
+}
+
+fn is_hidden(tuple: &Tuple) -> bool {
     tuple.relation == WANT || tuple.relation == UNKNOWN
 }
 

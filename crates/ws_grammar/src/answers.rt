@@ -1,37 +1,36 @@
 //! The command `answer`.
 
-use crate::bytes::{after_blanks, name_run};
-use crate::changes::{Changed, changed};
+use crate::changes::Changed;
 use crate::cursors::Cursor;
+use crate::items::Item;
 use crate::options::Options;
-use crate::standing::Names;
 use ws_command::{Change, Opt, SaidChoice, Verb};
 use ws_fault::Refusal;
-use ws_written::Relation;
+use ws_written::Fact;
 
 // The choice of an answer, and the options after it.
 type Chosen = (SaidChoice, Options);
 
 impl<'a> Cursor<'a> {
     /// What stands after `answer`.
-    pub(crate) fn answer_change(&mut self, names: &Names<'_>) -> Result<Changed, Refusal> {
+    pub(crate) fn answer_change(&mut self) -> Result<Changed, Refusal> {
         let numbers = self.distinct_numbers()?;
-        let (choice, options) = self.choice_and_options(names, numbers.len())?;
+        let (choice, options) = self.choice_and_options(numbers.len())?;
         let at = options.number(Opt::At);
         let change = Change::Answer {
             numbers,
             choice,
             at,
         };
-        Ok(changed(change, &options))
+        Ok((change, options.still()))
     }
 
     // The choice of an answer to so many updates, and the options.
-    fn choice_and_options(&mut self, names: &Names<'_>, count: usize) -> Result<Chosen, Refusal> {
+    fn choice_and_options(&mut self, count: usize) -> Result<Chosen, Refusal> {
         let choice = if 1 < count {
             self.common_choice()?
         } else {
-            self.choice(names.relations)?
+            self.choice()?
         };
         match self.options(Verb::Answer) {
             Ok(options) => Ok((choice, options)),
@@ -62,16 +61,13 @@ impl<'a> Cursor<'a> {
 
     // Takes this word, if it stands here and is not the name of a relation in front of a bracket.
     fn takes_verb(&mut self, word: &str) -> bool {
-        match name_run(self.rest) {
-            Some((_, rest)) if after_blanks(rest).starts_with(b"(") => false,
-            _ => self.take_word(word),
-        }
+        !self.is_tuple() && self.take_word(word)
     }
 
     // The choice of an answer to one update.
-    fn choice(&mut self, relations: &[Relation]) -> Result<SaidChoice, Refusal> {
+    fn choice(&mut self) -> Result<SaidChoice, Refusal> {
         if self.is_number() {
-            return Ok(SaidChoice::Numbers(self.candidates()?));
+            return Ok(SaidChoice::Numbers(self.joined()?));
         }
         if self.takes_new() {
             return Ok(SaidChoice::New);
@@ -80,11 +76,11 @@ impl<'a> Cursor<'a> {
             return Ok(SaidChoice::Go);
         }
         if self.takes_verb("unify") {
-            return Ok(SaidChoice::Unify(self.fact(relations)?));
+            return Ok(SaidChoice::Unify(Fact::read(self)?));
         }
         if self.takes_verb("delete") {
-            return Ok(SaidChoice::Delete(self.facts(relations)?));
+            return Ok(SaidChoice::Delete(self.joined()?));
         }
-        Ok(SaidChoice::Facts(self.facts(relations)?))
+        Ok(SaidChoice::Facts(self.joined()?))
     }
 }

@@ -12,15 +12,25 @@ fn is_variable(term: &Term, name: &str) -> bool {
 }
 
 fn has_variable(atoms: &[Atom], name: &str) -> bool {
-    atoms.iter().any(|atom| atom.terms.iter().any(|term| is_variable(term, name)))
+    for atom in atoms {
+        for term in atom.terms.iter() {
+            if is_variable(term, name) {
+                return true;
+            }
+        }
+    }
+    false
+}
+
+fn is_taken(rule: &Rule, name: &str) -> bool {
+    has_variable(rule.left.as_slice(), name) || has_variable(rule.right.as_slice(), name)
 }
 
 // `_i`, with one more `_` in front while the mapping has that name.
 fn free_name(alloc: Global, rule: &Rule, number: u32) -> Result<String, AllocError> {
     let mut name = format!(in alloc; "_{number}")?;
     for _ in 0..u64::MAX {
-        let left = has_variable(rule.left.as_slice(), name.as_str());
-        if !left && !has_variable(rule.right.as_slice(), name.as_str()) {
+        if !is_taken(rule, name.as_str()) {
             break;
         }
         name = format!(in alloc; "_{name}")?;
@@ -28,11 +38,14 @@ fn free_name(alloc: Global, rule: &Rule, number: u32) -> Result<String, AllocErr
     Ok(name)
 }
 
-fn count_blanks(atoms: &[Atom]) -> usize {
-    let mut count = 0usize;
+fn count_blanks(atoms: &[Atom]) -> u32 {
+    let mut count = 0u32;
     for atom in atoms {
-        let here = atom.terms.iter().filter(|t| is_variable(t, "_")).count();
-        count = count.saturating_add(here);
+        for term in atom.terms.iter() {
+            if is_variable(term, "_") {
+                count = count.saturating_add(1);
+            }
+        }
     }
     count
 }
@@ -56,7 +69,7 @@ pub fn set_apart(alloc: Global, rule: &mut Rule) -> Result<(), AllocError> {
     let left = count_blanks(rule.left.as_slice());
     let count = left.saturating_add(count_blanks(rule.right.as_slice()));
     let mut names = Vec::new(alloc);
-    for number in 1..=u32::try_from(count).unwrap_or(u32::MAX) {
+    for number in 1..=count {
         names.push(free_name(alloc, rule, number)?)?;
     }
     names.reverse();

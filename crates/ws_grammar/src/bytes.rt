@@ -1,5 +1,35 @@
 //! Bytes of a line: what they may be part of.
 
+/// What a byte may be part of.
+#[derive(Clone, Copy)]
+pub(crate) enum Kind {
+    /// What stands between tokens.
+    Blank,
+    Unblank,
+    Digit,
+    HexDigit,
+    /// A name: letters, digits and `_`.
+    Name,
+    /// The name of an option: letters and `-`.
+    Option,
+    /// What stands between two brackets, with no other between.
+    Unbracketed,
+}
+
+impl Kind {
+    fn has(self, byte: u8) -> bool {
+        match self {
+            Kind::Blank => is_blank(byte),
+            Kind::Unblank => !is_blank(byte),
+            Kind::Digit => byte.is_ascii_digit(),
+            Kind::HexDigit => byte.is_ascii_hexdigit(),
+            Kind::Name => byte.is_ascii_alphanumeric() || byte == b'_',
+            Kind::Option => byte.is_ascii_alphabetic() || byte == b'-',
+            Kind::Unbracketed => byte != b'(' && byte != b')',
+        }
+    }
+}
+
 /// A blank between tokens.
 pub(crate) fn is_blank(byte: u8) -> bool {
     byte == b' ' || byte == b'\t' || byte == b'\r'
@@ -10,15 +40,6 @@ pub(crate) fn is_white(letter: char) -> bool {
     letter.is_whitespace() || ('\u{1c}' <= letter && letter <= '\u{1f}')
 }
 
-fn is_letter(byte: u8) -> bool {
-    byte.is_ascii_alphabetic() || byte == b'_'
-}
-
-/// A letter, a digit or `_`.
-pub(crate) fn is_word_byte(byte: u8) -> bool {
-    byte.is_ascii_alphanumeric() || byte == b'_'
-}
-
 /// The bytes up to a place, and those from there on; all of them, and none, if there are fewer.
 pub(crate) fn cut(bytes: &[u8], place: usize) -> (&[u8], &[u8]) {
     match bytes.split_at_checked(place) {
@@ -27,48 +48,44 @@ pub(crate) fn cut(bytes: &[u8], place: usize) -> (&[u8], &[u8]) {
     }
 }
 
+/// The text up to the first of these letters, and that after it; all of it, and none, if there is no such letter.
+pub(crate) fn cut_at(text: &str, letter: char) -> (&str, &str) {
+    text.split_once(letter).unwrap_or((text, ""))
+}
+
 /// The bytes as a text; an empty one if they are none.
 pub(crate) fn text_of(bytes: &[u8]) -> &str {
     str::from_utf8(bytes).unwrap_or("")
 }
 
-/// The leading letters, digits and `_`, and the rest.
-pub(crate) fn word_run(bytes: &[u8]) -> (&[u8], &[u8]) {
-    let end = bytes.iter().position(|b| !is_word_byte(*b));
-    cut(bytes, end.unwrap_or(bytes.len()))
-}
-
-/// The leading digits, and the rest.
-pub(crate) fn digit_run(bytes: &[u8]) -> (&[u8], &[u8]) {
-    let end = bytes.iter().position(|b| !b.is_ascii_digit());
-    cut(bytes, end.unwrap_or(bytes.len()))
-}
-
-/// What stands up to the next blank, and the rest.
-pub(crate) fn unblank_run(bytes: &[u8]) -> (&[u8], &[u8]) {
-    let end = bytes.iter().position(|b| is_blank(*b));
-    cut(bytes, end.unwrap_or(bytes.len()))
+/// The leading bytes of a kind, and the rest.
+pub(crate) fn run(bytes: &[u8], kind: Kind) -> (&[u8], &[u8]) {
+    for (place, byte) in bytes.iter().enumerate() {
+        if !kind.has(*byte) {
+            return cut(bytes, place);
+        }
+    }
+    (bytes, &[])
 }
 
 /// What stands after the leading blanks.
 pub(crate) fn after_blanks(bytes: &[u8]) -> &[u8] {
-    let start = bytes.iter().position(|b| !is_blank(*b));
-    cut(bytes, start.unwrap_or(bytes.len())).1
+    run(bytes, Kind::Blank).1
 }
 
-/// The name that the bytes begin with, and the rest, if they begin with one.
+/// The name that the bytes begin with, a letter or `_` in front, and the rest, if they begin with one.
 pub(crate) fn name_run(bytes: &[u8]) -> Option<(&str, &[u8])> {
-    if !is_letter(*bytes.first()?) {
+    let (name, rest) = run(bytes, Kind::Name);
+    if name.first()?.is_ascii_digit() {
         return None;
     }
-    let (name, rest) = word_run(bytes);
     Some((text_of(name), rest))
 }
 
 /// The number that the bytes begin with, as it is written, and the rest, if they begin with one.
 pub(crate) fn number_run(bytes: &[u8]) -> Option<(&str, &[u8])> {
     let after = bytes.strip_prefix(b"-").unwrap_or(bytes);
-    let (digits, rest) = digit_run(after);
+    let (digits, rest) = run(after, Kind::Digit);
     if digits.is_empty() {
         return None;
     }
@@ -78,8 +95,8 @@ pub(crate) fn number_run(bytes: &[u8]) -> Option<(&str, &[u8])> {
 
 /// The two numbers of `?U.P` at the beginning of the bytes, as they are written, and the rest.
 pub(crate) fn unknown_run(bytes: &[u8]) -> Option<(&str, &str, &[u8])> {
-    let (update, after) = digit_run(bytes.strip_prefix(b"?")?);
-    let (place, rest) = digit_run(after.strip_prefix(b".")?);
+    let (update, after) = run(bytes.strip_prefix(b"?")?, Kind::Digit);
+    let (place, rest) = run(after.strip_prefix(b".")?, Kind::Digit);
     if update.is_empty() || place.is_empty() {
         return None;
     }
@@ -88,11 +105,7 @@ pub(crate) fn unknown_run(bytes: &[u8]) -> Option<(&str, &str, &[u8])> {
 
 /// The name of the option `--NAME` at the beginning of the bytes, and the rest.
 pub(crate) fn option_run(bytes: &[u8]) -> Option<(&str, &[u8])> {
-    let after = bytes.strip_prefix(b"--")?;
-    let end = after
-        .iter()
-        .position(|b| !b.is_ascii_alphabetic() && *b != b'-');
-    let (name, rest) = cut(after, end.unwrap_or(after.len()));
+    let (name, rest) = run(bytes.strip_prefix(b"--")?, Kind::Option);
     if name.is_empty() {
         return None;
     }

@@ -1,6 +1,6 @@
 //! A line of commands.
 
-use crate::bytes::is_white;
+use crate::bytes::{is_white, text_of};
 use crate::cursors::Cursor;
 use crate::standing::Names;
 use std::alloc::{AllocError, Global};
@@ -8,27 +8,50 @@ use ws_command::{Command, Said, VERBS, Verb};
 use ws_fault::{Nearest, Refusal, Status, meant};
 use ws_print::{Text, add_escaped};
 
+// What may be done if nothing is near.
+const LISTED: &str = "`help` lists them";
+
+// Words of other languages, each with the verb that does what it asks for.
+const OTHERS: [(&str, &str); 29] = [
+    ("add", "insert"),
+    ("put", "insert"),
+    ("remove", "delete"),
+    ("del", "delete"),
+    ("rm", "delete"),
+    ("update", "replace"),
+    ("set", "replace"),
+    ("change", "replace"),
+    ("select", "ask"),
+    ("query", "ask"),
+    ("repair", "adopt"),
+    ("fix", "adopt"),
+    ("withdraw", "undo"),
+    ("revert", "undo"),
+    ("rollback", "undo"),
+    ("import", "load"),
+    ("check", "violations"),
+    ("lint", "violations"),
+    ("explain", "why"),
+    ("history", "log"),
+    ("tables", "status"),
+    ("ls", "status"),
+    ("save", "dump"),
+    ("diff", "try"),
+    ("create", "relation"),
+    ("table", "relation"),
+    ("rule", "mapping"),
+    ("expand", "answer"),
+    ("unify", "answer"),
+];
+
 // The verb that does what a word of another language asks for.
 fn same_as(word: &str) -> Option<&'static str> {
-    match word {
-        "add" | "put" => Some("insert"),
-        "remove" | "del" | "rm" => Some("delete"),
-        "update" | "set" | "change" => Some("replace"),
-        "select" | "query" => Some("ask"),
-        "repair" | "fix" => Some("adopt"),
-        "withdraw" | "revert" | "rollback" => Some("undo"),
-        "import" => Some("load"),
-        "check" | "lint" => Some("violations"),
-        "explain" => Some("why"),
-        "history" => Some("log"),
-        "tables" | "ls" => Some("status"),
-        "save" => Some("dump"),
-        "diff" => Some("try"),
-        "create" | "table" => Some("relation"),
-        "rule" => Some("mapping"),
-        "expand" | "unify" => Some("answer"),
-        _ => None,
+    for (other, verb) in OTHERS.iter() {
+        if *other == word {
+            return Some(*verb);
+        }
     }
+    None
 }
 
 // Whether `try` takes the command.
@@ -53,88 +76,108 @@ fn verb_hint(alloc: Global, word: &str) -> Result<Option<String>, AllocError> {
     if let Some(verb) = same_as(lower.as_str()) {
         return Ok(Some(meant(alloc, verb)?));
     }
-    if let Some(question) = meant_verb(alloc, word, false)? {
-        return Ok(Some(question));
+    match meant_verb(alloc, word, false)? {
+        None => Ok(Some(String::from_str(alloc, LISTED)?)),
+        question => Ok(question),
     }
-    Ok(Some(String::from_str(alloc, "`help` lists them")?))
 }
 
 impl<'a> Cursor<'a> {
     fn verb(&mut self) -> Result<Verb, Refusal> {
         if !self.is_name() {
-            return self.fail_with("a command", "`help` lists them");
+            return self.fail_with("a command", LISTED);
         }
         let at = self.at();
         let word = self.name("a command")?;
         if let Some(verb) = Verb::of(word) {
             return Ok(verb);
         }
-        let words = format!(in self.alloc; "{word} is no command")?;
-        self.refuse(Status::Unread, at, words, verb_hint(self.alloc, word)?)
+        self.no_command(at, word, verb_hint(self.alloc, word))
     }
 
-    fn command(&mut self, names: &Names<'_>) -> Result<Command, Refusal> {
+    // The word at a place is no command.
+    fn no_command(
+        &self,
+        at: usize,
+        word: &str,
+        hint: Result<Option<String>, AllocError>,
+    ) -> Result<Verb, Refusal> {
+        let words = format!(in self.alloc; "{word} is no command");
+        self.refuse(Status::Unread, at, words, hint)
+    }
+
+    fn command(&mut self) -> Result<Command, Refusal> {
         let verb = self.verb()?;
         if verb.changes() {
-            let (change, still) = self.change(verb, names)?;
+            let (change, still) = self.change(verb)?;
             return Ok(Command::Change { change, still });
         }
         match verb {
-            Verb::Try => self.attempt(names),
+            Verb::Try => self.attempt(),
             Verb::Help => self.help(),
             Verb::Quit => {
                 self.options(verb)?;
                 Ok(Command::Quit)
             }
-            _ => Ok(Command::Look(self.look(verb, names)?)),
+            _ => Ok(Command::Look(self.look(verb)?)),
         }
     }
 
     // What stands after `try`.
-    fn attempt(&mut self, names: &Names<'_>) -> Result<Command, Refusal> {
+    fn attempt(&mut self) -> Result<Command, Refusal> {
+        let verb = self.tried()?;
+        let (change, still) = self.change(verb)?;
+        Ok(Command::Try { change, still })
+    }
+
+    // The verb of a command that `try` takes.
+    fn tried(&mut self) -> Result<Verb, Refusal> {
         let at = self.at();
         let word = self.name("a command behind try")?;
-        if word != "exit" {
-            if let Some(verb) = Verb::of(word) {
-                if can_be_tried(verb) {
-                    let (change, still) = self.change(verb, names)?;
-                    return Ok(Command::Try { change, still });
-                }
+        match Verb::of(word) {
+            Some(verb) if can_be_tried(verb) => Ok(verb),
+            _ => {
+                let words = "try takes a command that changes something";
+                let words = String::from_str(self.alloc, words);
+                self.refuse(
+                    Status::Unread,
+                    at,
+                    words,
+                    meant_verb(self.alloc, word, true),
+                )
             }
         }
-        let words = "try takes a command that changes something";
-        let words = String::from_str(self.alloc, words)?;
-        let hint = meant_verb(self.alloc, word, true)?;
-        self.refuse(Status::Unread, at, words, hint)
     }
 
     fn help(&mut self) -> Result<Command, Refusal> {
         let mut verb = None;
         if self.is_name() {
-            let at = self.at();
-            let word = self.name("a command")?;
-            verb = Verb::of(word);
-            if verb.is_none() || word == "exit" {
-                let words = format!(in self.alloc; "{word} is no command")?;
-                let hint = meant_verb(self.alloc, word, false)?;
-                return self.refuse(Status::Unread, at, words, hint);
-            }
+            verb = Some(self.helped()?);
         }
         self.options(Verb::Help)?;
         Ok(Command::Help(verb))
     }
 
-    // The comment of a line in which no unknown is strange.
-    fn comment_at_end(&self) -> Result<String, Refusal> {
-        self.refuse_strange()?;
+    // The verb that help is asked for.
+    fn helped(&mut self) -> Result<Verb, Refusal> {
+        let at = self.at();
+        let word = self.name("a command")?;
+        match Verb::of(word) {
+            Some(verb) if word != "exit" => Ok(verb),
+            _ => self.no_command(at, word, meant_verb(self.alloc, word, false)),
+        }
+    }
+
+    /// The comment, at the end of the line.
+    pub(crate) fn last_comment(&self) -> Result<String, Refusal> {
+        self.end()?;
         Ok(self.comment()?)
     }
 
-    /// The comment of the line, with control characters escaped.
-    pub(crate) fn comment(&self) -> Result<String, AllocError> {
+    // The comment of the line, with control characters escaped.
+    fn comment(&self) -> Result<String, AllocError> {
         let mut comment = Text::new(self.alloc);
-        let text = str::from_utf8(self.comment).unwrap_or("");
-        add_escaped(&mut comment, text.trim_matches(is_white));
+        add_escaped(&mut comment, text_of(self.comment).trim_matches(is_white));
         comment.done()
     }
 }
@@ -143,12 +186,12 @@ impl<'a> Cursor<'a> {
 ///
 /// A line has no line feed. It is refused for its first fault from the left, or for want of memory.
 pub fn read_command(alloc: Global, names: &Names<'_>, line: &str) -> Result<Option<Said>, Refusal> {
-    let mut cursor = Cursor::over(alloc, line);
+    let mut cursor = Cursor::over(alloc, *names, line);
     if cursor.is_done() {
         return Ok(None);
     }
-    let command = cursor.command(names)?;
-    match cursor.comment_at_end() {
+    let command = cursor.command()?;
+    match cursor.last_comment() {
         Ok(comment) => Ok(Some(Said { command, comment })),
         Err(refusal) => {
             drop(command);

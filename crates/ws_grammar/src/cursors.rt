@@ -1,14 +1,16 @@
 //! A place in a line, and the tokens from there on.
 
-use crate::bytes::{after_blanks, is_blank, name_run, number_run};
+use crate::bytes::{after_blanks, name_run, number_run};
+use crate::standing::Names;
 use std::alloc::Global;
 use ws_fault::Refusal;
 
-/// A line, and what is left of it. After each token blanks are passed over, and so are a comment and a last `;`. `strange` has
-/// the digits of the first unknown whose numbers have more than 32 bits.
+/// A line over the names that stand, and what is left of it. After each token blanks are passed over, and so are a comment and
+/// a last `;`. `strange` has the digits of the first unknown whose numbers have more than 32 bits.
 #[derive(Drop)]
 pub(crate) struct Cursor<'a> {
     pub(crate) alloc: Global,
+    pub(crate) names: Names<'a>,
     pub(crate) line: &'a [u8],
     pub(crate) rest: &'a [u8],
     pub(crate) comment: &'a [u8],
@@ -18,17 +20,18 @@ pub(crate) struct Cursor<'a> {
 // Whether nothing but `;` and blanks is left.
 fn is_last_semicolon(rest: &[u8]) -> bool {
     match rest {
-        [b';', after @ ..] => after.iter().all(|b| is_blank(*b)),
+        [b';', after @ ..] => after_blanks(after).is_empty(),
         _ => false,
     }
 }
 
 impl<'a> Cursor<'a> {
-    /// The beginning of a line.
-    pub(crate) fn over(alloc: Global, line: &'a str) -> Cursor<'a> {
+    /// The beginning of a line over the names that stand.
+    pub(crate) fn over(alloc: Global, names: Names<'a>, line: &'a str) -> Cursor<'a> {
         let bytes = line.as_bytes();
         let mut cursor = Cursor {
             alloc,
+            names,
             line: bytes,
             rest: bytes,
             comment: b"",
@@ -65,13 +68,11 @@ impl<'a> Cursor<'a> {
 
     /// Takes a sign, if it stands here.
     pub(crate) fn take_sign(&mut self, sign: &str) -> bool {
-        match self.rest.strip_prefix(sign.as_bytes()) {
-            Some(rest) => {
-                self.go_on(rest);
-                true
-            }
-            None => false,
-        }
+        let Some(rest) = self.rest.strip_prefix(sign.as_bytes()) else {
+            return false;
+        };
+        self.go_on(rest);
+        true
     }
 
     /// Takes a sign.
@@ -86,24 +87,31 @@ impl<'a> Cursor<'a> {
         name_run(self.rest).is_some()
     }
 
-    /// Whether this name stands here.
-    pub(crate) fn is_word(&self, word: &str) -> bool {
+    /// Whether a name in front of a bracket stands here.
+    pub(crate) fn is_tuple(&self) -> bool {
         match name_run(self.rest) {
-            Some((name, _)) => name == word,
+            Some((_, rest)) => after_blanks(rest).starts_with(b"("),
             None => false,
         }
     }
 
     /// Takes a name, if this one stands here.
     pub(crate) fn take_word(&mut self, word: &str) -> bool {
-        let Some((name, rest)) = name_run(self.rest) else {
-            return false;
-        };
-        if name != word {
-            return false;
+        match name_run(self.rest) {
+            Some((name, rest)) if name == word => {
+                self.go_on(rest);
+                true
+            }
+            _ => false,
         }
-        self.go_on(rest);
-        true
+    }
+
+    /// Takes this name, which says what comes next.
+    pub(crate) fn keyword(&mut self, word: &str) -> Result<(), Refusal> {
+        if self.take_word(word) {
+            return Ok(());
+        }
+        self.fail(word)
     }
 
     /// Takes a name.
@@ -113,6 +121,12 @@ impl<'a> Cursor<'a> {
         };
         self.go_on(rest);
         Ok(name)
+    }
+
+    /// Takes a name, and copies it.
+    pub(crate) fn owned_name(&mut self, expected: &str) -> Result<String, Refusal> {
+        let name = self.name(expected)?;
+        Ok(String::from_str(self.alloc, name)?)
     }
 
     pub(crate) fn is_number(&self) -> bool {
@@ -125,14 +139,5 @@ impl<'a> Cursor<'a> {
             return self.fail("the end of the line");
         }
         self.refuse_strange()
-    }
-
-    /// After an item between brackets: whether the list ends here.
-    pub(crate) fn closes(&mut self) -> Result<bool, Refusal> {
-        if self.take_sign(")") {
-            return Ok(true);
-        }
-        self.sign(",", "a comma or )")?;
-        Ok(false)
     }
 }

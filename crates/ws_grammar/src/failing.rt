@@ -1,6 +1,6 @@
 //! What is told if something else was expected.
 
-use crate::bytes::{name_run, text_of, word_run};
+use crate::bytes::{Kind, cut, name_run, run, text_of};
 use crate::cursors::Cursor;
 use std::alloc::AllocError;
 use ws_fault::{Fault, Refusal, Status};
@@ -22,11 +22,7 @@ const MARK: &str = "the line begins with a byte order mark";
 
 // The first character of a text.
 fn first_letter(rest: &[u8]) -> Option<char> {
-    let start = match rest.split_at_checked(4) {
-        Some((start, _)) => start,
-        None => rest,
-    };
-    start.utf8_chunks().next()?.valid().chars().next()
+    text_of(rest).chars().next()
 }
 
 fn is_quote(letter: char) -> bool {
@@ -65,7 +61,7 @@ fn hint_at(rest: &[u8], after_quote: bool) -> Option<&'static str> {
         Some(COMMENT)
     } else if is_arrow(rest) {
         Some(ARROW)
-    } else if is_comparison(letter) || text_of(word_run(rest).0) == "not" {
+    } else if is_comparison(letter) || text_of(run(rest, Kind::Name).0) == "not" {
         Some(COMMAS)
     } else if after_quote && name_run(rest).is_some() {
         Some(ESCAPE)
@@ -79,24 +75,21 @@ fn hint_at(rest: &[u8], after_quote: bool) -> Option<&'static str> {
 impl<'a> Cursor<'a> {
     /// The place of a byte of the line, in characters.
     pub(crate) fn column(&self, at: usize) -> usize {
-        self.line
-            .iter()
-            .take(at)
-            .filter(|b| **b & 0xc0 != 0x80)
-            .count()
+        text_of(cut(self.line, at).0).chars().count()
     }
 
-    /// Refuses what stood at a place.
+    /// Refuses what stood at a place, in these words and with this hint, if there was memory for both.
     pub(crate) fn refuse<T>(
         &self,
         status: Status,
         at: usize,
-        words: String,
-        hint: Option<String>,
+        words: Result<String, AllocError>,
+        hint: Result<Option<String>, AllocError>,
     ) -> Result<T, Refusal> {
+        let hint = hint?;
         Err(Refusal::Fault(Fault {
             status,
-            words,
+            words: words?,
             place: Some(self.column(at)),
             hint,
             more: Vec::new(self.alloc),
@@ -105,12 +98,12 @@ impl<'a> Cursor<'a> {
 
     /// Refuses what stood at a place as one that cannot be read, with a hint if it is not empty.
     pub(crate) fn unread<T>(&self, at: usize, words: &str, hint: &str) -> Result<T, Refusal> {
-        let words = String::from_str(self.alloc, words)?;
-        let hint = self.hint(hint)?;
-        self.refuse(Status::Unread, at, words, hint)
+        let words = String::from_str(self.alloc, words);
+        self.refuse(Status::Unread, at, words, self.hint(hint))
     }
 
-    fn hint(&self, hint: &str) -> Result<Option<String>, AllocError> {
+    /// The hint; none if it is empty.
+    pub(crate) fn hint(&self, hint: &str) -> Result<Option<String>, AllocError> {
         if hint.is_empty() {
             return Ok(None);
         }
@@ -133,16 +126,14 @@ impl<'a> Cursor<'a> {
             words.push_str(", found ");
             self.add_found(&mut words);
         }
-        let words = words.done()?;
-        let hint = self.hint(hint)?;
-        self.refuse(Status::Unread, self.at(), words, hint)
+        self.refuse(Status::Unread, self.at(), words.done(), self.hint(hint))
     }
 
     // The run of letters, digits and `_` here, or the one character.
     fn add_found(&self, words: &mut Text) {
-        let (run, _) = word_run(self.rest);
-        if !run.is_empty() {
-            return words.push_str(text_of(run));
+        let (name, _) = run(self.rest, Kind::Name);
+        if !name.is_empty() {
+            return words.push_str(text_of(name));
         }
         if let Some(letter) = first_letter(self.rest) {
             add_letter(words, letter);

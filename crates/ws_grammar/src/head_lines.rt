@@ -1,10 +1,13 @@
 //! The lines of a head.
 
+use crate::bytes::cut_at;
 use crate::cursors::Cursor;
+use crate::items::Item;
 use crate::stamps::stamp_of;
+use crate::standing::Names;
 use std::alloc::Global;
 use ws_fault::Refusal;
-use ws_written::{Answer, Drawn, Head, Image, NumberedUpdate, Relation, Waiting};
+use ws_written::{Drawn, Head, Image, Waiting};
 
 /// What a line says, its first word and the rest, is added to the head.
 pub(crate) fn add_line(
@@ -13,77 +16,77 @@ pub(crate) fn add_line(
     word: &str,
     rest: &str,
 ) -> Result<(), Refusal> {
-    let mut cursor = Cursor::over(alloc, rest);
+    if word == "relation" {
+        let mut cursor = Cursor::over(alloc, Names::of(&[]), rest);
+        return add(&mut cursor, &mut head.relations);
+    }
+    let names = Names::of(head.relations.as_slice());
+    let mut cursor = Cursor::over(alloc, names, rest);
     match word {
-        "waits" => add_waiting(alloc, head, rest),
-        "drew" => add_drawn(head, &mut cursor),
-        "answer" => add_answer(head, &mut cursor),
-        _ => {
-            add_plain(head, &mut cursor, word)?;
-            cursor.end()
+        "base" => add(&mut cursor, &mut head.base),
+        "unknown" => add(&mut cursor, &mut head.unknowns),
+        "mapping" => add(&mut cursor, &mut head.in_force),
+        "proposed" => add(&mut cursor, &mut head.proposed),
+        "waits" => add_waiting(alloc, names, &mut head.waiting, rest),
+        "drew" => {
+            let above = above(&mut cursor, head.waiting.as_mut_slice())?;
+            add(&mut cursor, &mut above.drawn)
         }
+        "answer" => {
+            let above = above(&mut cursor, head.waiting.as_mut_slice())?;
+            add(&mut cursor, &mut above.answers)
+        }
+        _ => cursor.fail("a line of the head"),
     }
 }
 
-// What a line says that is of no waiting update.
-fn add_plain(head: &mut Head, cursor: &mut Cursor<'_>, word: &str) -> Result<(), Refusal> {
-    match word {
-        "base" => {
-            let fact = cursor.fact(head.relations.as_slice())?;
-            head.base.push(fact)?;
-        }
-        "unknown" => head.unknowns.push(cursor.known_unknown()?)?,
-        "relation" => head.relations.push(cursor.new_relation()?)?,
-        "mapping" => {
-            let rule = cursor.known_rule(head.relations.as_slice())?;
-            head.in_force.push(rule)?;
-        }
-        "proposed" => {
-            let rule = cursor.known_rule(head.relations.as_slice())?;
-            head.proposed.push(rule)?;
-        }
-        _ => return cursor.fail("a line of the head"),
-    }
+// The line is an item of the list.
+fn add<T: Item>(cursor: &mut Cursor<'_>, list: &mut Vec<T>) -> Result<(), Refusal> {
+    list.push(cursor.last()?)?;
     Ok(())
 }
 
-fn add_waiting(alloc: Global, head: &mut Head, rest: &str) -> Result<(), Refusal> {
-    let waiting = waiting(alloc, head.relations.as_slice(), rest)?;
-    head.waiting.push(waiting)?;
+// `TIME CURATOR LINE`.
+fn add_waiting(
+    alloc: Global,
+    names: Names<'_>,
+    list: &mut Vec<Waiting>,
+    rest: &str,
+) -> Result<(), Refusal> {
+    let (time, after) = cut_at(rest, ' ');
+    let (curator, line) = cut_at(after, ' ');
+    let mut cursor = Cursor::over(alloc, names, line);
+    let Some(stamp) = stamp_of(alloc, time, curator)? else {
+        return cursor.fail("a time and a name");
+    };
+    list.push(Waiting {
+        stamp,
+        update: cursor.last()?,
+        drawn: Vec::new(alloc),
+        answers: Vec::new(alloc),
+    })?;
     Ok(())
 }
 
-impl<'a> Cursor<'a> {
-    // A numbered update, at the end of the line.
-    fn ended_update(&mut self, relations: &[Relation]) -> Result<NumberedUpdate, Refusal> {
-        let update = self.numbered(relations)?;
-        match self.end() {
-            Ok(()) => Ok(update),
-            Err(refusal) => {
-                drop(update);
-                Err(refusal)
-            }
-        }
+// The last update that waits; its number is taken.
+fn above<'w>(
+    cursor: &mut Cursor<'_>,
+    waiting: &'w mut [Waiting],
+) -> Result<&'w mut Waiting, Refusal> {
+    let number = cursor.update_number()?;
+    match waiting.last_mut() {
+        Some(last) if last.update.number == number => Ok(last),
+        _ => cursor.fail("the number of the update above"),
     }
+}
 
-    // An answer, at the end of the line.
-    fn ended_answer(&mut self, relations: &[Relation]) -> Result<Answer, Refusal> {
-        let answer = self.answer(relations)?;
-        match self.end() {
-            Ok(()) => Ok(answer),
-            Err(refusal) => {
-                drop(answer);
-                Err(refusal)
-            }
-        }
-    }
-
-    // `P MAPPING VARIABLE [IMAGE]`.
-    fn drawn(&mut self, relations: &[Relation]) -> Result<Drawn, Refusal> {
-        let place = self.count("a place", 1, u32::MAX)?;
-        let mapping = self.owned_name()?;
-        let variable = self.owned_name()?;
-        let image = self.image(relations, mapping.as_str())?;
+// `P MAPPING VARIABLE [IMAGE]`.
+impl Item for Drawn {
+    fn read(cursor: &mut Cursor<'_>) -> Result<Drawn, Refusal> {
+        let place = cursor.count("a place", 1, u32::MAX)?;
+        let mapping = cursor.owned_name("a name")?;
+        let variable = cursor.owned_name("a name")?;
+        let image = cursor.image(mapping.as_str())?;
         Ok(Drawn {
             place,
             mapping,
@@ -91,61 +94,16 @@ impl<'a> Cursor<'a> {
             image,
         })
     }
+}
 
-    fn image(&mut self, relations: &[Relation], mapping: &str) -> Result<Image, Refusal> {
+impl<'a> Cursor<'a> {
+    fn image(&mut self, mapping: &str) -> Result<Image, Refusal> {
         if mapping == "_new" {
             return Ok(Image::New(self.count("a place", 1, u32::MAX)?));
         }
         if self.is_done() {
             return Ok(Image::Facts(Vec::new(self.alloc)));
         }
-        Ok(Image::Facts(self.facts(relations)?))
+        Ok(Image::Facts(self.joined()?))
     }
-}
-
-// `TIME CURATOR LINE`.
-fn waiting(alloc: Global, relations: &[Relation], rest: &str) -> Result<Waiting, Refusal> {
-    let (time, after) = rest.split_once(' ').unwrap_or((rest, ""));
-    let (curator, line) = after.split_once(' ').unwrap_or((after, ""));
-    let mut cursor = Cursor::over(alloc, line);
-    let Some(stamp) = stamp_of(alloc, time, curator)? else {
-        return cursor.fail("a time and a name");
-    };
-    let update = cursor.ended_update(relations)?;
-    Ok(Waiting {
-        stamp,
-        update,
-        drawn: Vec::new(alloc),
-        answers: Vec::new(alloc),
-    })
-}
-
-// Takes the number of the last update that waits.
-fn last_waiting(head: &Head, cursor: &mut Cursor<'_>) -> Result<(), Refusal> {
-    let number = cursor.update_number()?;
-    match head.waiting.last() {
-        Some(waiting) if waiting.update.number == number => Ok(()),
-        _ => cursor.fail("the number of the update above"),
-    }
-}
-
-fn add_drawn(head: &mut Head, cursor: &mut Cursor<'_>) -> Result<(), Refusal> {
-    last_waiting(head, cursor)?;
-    let drawn = cursor.drawn(head.relations.as_slice())?;
-    cursor.end()?;
-    match head.waiting.last_mut() {
-        Some(waiting) => waiting.drawn.push(drawn)?,
-        None => drop(drawn),
-    }
-    Ok(())
-}
-
-fn add_answer(head: &mut Head, cursor: &mut Cursor<'_>) -> Result<(), Refusal> {
-    last_waiting(head, cursor)?;
-    let answer = cursor.ended_answer(head.relations.as_slice())?;
-    match head.waiting.last_mut() {
-        Some(waiting) => waiting.answers.push(answer)?,
-        None => drop(answer),
-    }
-    Ok(())
 }

@@ -1,8 +1,9 @@
 //! The head of a file, line by line.
 
+use crate::bytes::cut_at;
 use crate::head_lines::add_line;
 use crate::records::readable;
-use crate::stamps::stamp_line;
+use crate::stamps::stamp_of;
 use std::alloc::{AllocError, Global};
 use ws_written::{Head, Stamp};
 
@@ -17,12 +18,13 @@ pub fn read_head(alloc: Global, text: &[u8]) -> Result<Option<Head>, AllocError>
     let Some(rest) = rest.strip_suffix("\nend") else {
         return Ok(None);
     };
-    let (created, rest) = cut_line(rest);
-    let Some(created) = stamp_line(alloc, created)? else {
+    let (created, rest) = cut_at(rest, '\n');
+    let (last, rest) = cut_at(rest, '\n');
+    let Some((last, at)) = last_line(last) else {
         return Ok(None);
     };
-    let (last, rest) = cut_line(rest);
-    let Some((last, at)) = last_line(last) else {
+    let (time, curator) = cut_at(created, ' ');
+    let Some(created) = stamp_of(alloc, time, curator)? else {
         return Ok(None);
     };
     filled_head(alloc, empty_head(alloc, created, last, at), rest)
@@ -40,14 +42,6 @@ fn filled_head(alloc: Global, mut head: Head, lines: &str) -> Result<Option<Head
             drop(head);
             Err(error)
         }
-    }
-}
-
-// The first line, and those after it.
-fn cut_line(text: &str) -> (&str, &str) {
-    match text.split_once('\n') {
-        Some(parts) => parts,
-        None => (text, ""),
     }
 }
 

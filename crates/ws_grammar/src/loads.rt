@@ -10,25 +10,36 @@ use ws_fault::Refusal;
 impl<'a> Cursor<'a> {
     /// What stands after `load`.
     pub(crate) fn load_change(&mut self) -> Result<Changed, Refusal> {
-        let name = self.name("a relation")?;
-        let relation = String::from_str(self.alloc, name)?;
-        let at = self.at();
-        let after = self.rest;
+        let relation = self.owned_name("a relation")?;
+        let here = self.rest;
         let path = self.load_path()?;
         let mut options = self.options(Verb::Load)?;
-        let source = match (path, options.number(Opt::Lines)) {
-            (Some(path), None) => Source::File(path),
-            (None, Some(lines)) => Source::Lines(lines),
-            (Some(_), Some(_)) => return self.unread(at, "a file or --lines, not both", ""),
-            (None, None) => {
-                self.rest = after;
-                let hint = "or --lines N: the next N lines of the input";
-                return self.fail_with("a file", hint);
-            }
-        };
-        let still = options.number(Opt::Still);
+        let lines = options.number(Opt::Lines);
+        let source = self.source(here, path, lines)?;
+        let still = options.still();
         let load = load_of(relation, source, &mut options);
         Ok((Change::Load(load), still))
+    }
+
+    // Where the rows come from: a file that stood here, or so many lines of the input.
+    fn source(
+        &mut self,
+        here: &'a [u8],
+        path: Option<String>,
+        lines: Option<u32>,
+    ) -> Result<Source, Refusal> {
+        match (path, lines) {
+            (Some(path), None) => Ok(Source::File(path)),
+            (None, Some(lines)) => Ok(Source::Lines(lines)),
+            (Some(_), Some(_)) => {
+                self.rest = here;
+                self.unread(self.at(), "a file or --lines, not both", "")
+            }
+            (None, None) => {
+                self.rest = here;
+                self.fail_with("a file", "or --lines N: the next N lines of the input")
+            }
+        }
     }
 
     // The file, if no option stands here.

@@ -1,22 +1,22 @@
 //! Commands that look.
 
 use crate::cursors::Cursor;
-use crate::standing::Names;
-use ws_command::{Export, Look, Opt, Paging, Shown, Verb, Why};
+use crate::items::Item;
+use ws_command::{Asked, Export, Look, Opt, Paging, Pattern, Shown, Verb, Why};
 use ws_fault::Refusal;
-use ws_written::Relation;
+use ws_written::{Atom, Unknown};
 
 impl<'a> Cursor<'a> {
     /// What stands after a verb that looks.
-    pub(crate) fn look(&mut self, verb: Verb, names: &Names<'_>) -> Result<Look, Refusal> {
+    pub(crate) fn look(&mut self, verb: Verb) -> Result<Look, Refusal> {
         match verb {
-            Verb::Show => self.show(names),
-            Verb::Ask => self.ask(names),
-            Verb::Why => self.why(names),
+            Verb::Show => self.show(),
+            Verb::Ask => self.ask(),
+            Verb::Why => self.why(),
             Verb::Questions => self.questions(),
-            Verb::Violations => self.violations(names),
+            Verb::Violations => self.violations(),
             Verb::Log => self.log(),
-            Verb::Export => self.export(names),
+            Verb::Export => self.export(),
             Verb::Graph => Ok(Look::Graph(self.to_file(verb)?)),
             Verb::Page => Ok(Look::Page(self.to_file(verb)?)),
             Verb::Dump => Ok(Look::Dump(self.to_file(verb)?)),
@@ -33,27 +33,29 @@ impl<'a> Cursor<'a> {
         Ok(options.take_word(Opt::To))
     }
 
-    // A relation by its name, or an atom.
-    fn shown(&mut self, relations: &[Relation]) -> Result<Shown, Refusal> {
-        let at = self.at();
-        let after = self.rest;
-        let name = self.name("a relation")?;
-        if self.is_sign("(") {
-            self.rest = after;
-            return Ok(Shown::Rows(self.atom(relations)?));
-        }
-        Ok(Shown::Table(self.relation_at(relations, at, name)?))
-    }
-
-    fn show(&mut self, names: &Names<'_>) -> Result<Look, Refusal> {
+    // Tables and atoms, with commas between them or without.
+    fn all_shown(&mut self) -> Result<Vec<Shown>, Refusal> {
         let mut all = Vec::new(self.alloc);
         for _ in 0..u64::MAX {
             if !self.is_name() {
                 break;
             }
-            all.push(self.shown(names.relations)?)?;
+            all.push(self.shown()?)?;
             self.take_sign(",");
         }
+        Ok(all)
+    }
+
+    // A relation by its name, or an atom.
+    fn shown(&mut self) -> Result<Shown, Refusal> {
+        if self.is_tuple() {
+            return Ok(Shown::Rows(Atom::read(self)?));
+        }
+        Ok(Shown::Table(self.relation()?))
+    }
+
+    fn show(&mut self) -> Result<Look, Refusal> {
+        let all = self.all_shown()?;
         let mut options = self.options(Verb::Show)?;
         let paging = Paging {
             unknowns: options.has(Opt::Unknowns),
@@ -64,8 +66,8 @@ impl<'a> Cursor<'a> {
         Ok(Look::Show(all, paging))
     }
 
-    fn ask(&mut self, names: &Names<'_>) -> Result<Look, Refusal> {
-        let asked = self.query(names.relations)?;
+    fn ask(&mut self) -> Result<Look, Refusal> {
+        let asked = Asked::read(self)?;
         let options = self.options(Verb::Ask)?;
         Ok(Look::Ask {
             asked,
@@ -74,11 +76,11 @@ impl<'a> Cursor<'a> {
         })
     }
 
-    fn why(&mut self, names: &Names<'_>) -> Result<Look, Refusal> {
+    fn why(&mut self) -> Result<Look, Refusal> {
         let what = if self.is_sign("?") {
-            Why::Unknown(self.known_unknown()?)
+            Why::Unknown(Unknown::read(self)?)
         } else {
-            Why::Fact(self.pattern(names.relations)?)
+            Why::Fact(Pattern::read(self)?)
         };
         let options = self.options(Verb::Why)?;
         Ok(Look::Why(what, options.has(Opt::Dot)))
@@ -103,10 +105,10 @@ impl<'a> Cursor<'a> {
         })
     }
 
-    fn violations(&mut self, names: &Names<'_>) -> Result<Look, Refusal> {
+    fn violations(&mut self) -> Result<Look, Refusal> {
         let mut mapping = None;
         if self.is_name() {
-            mapping = Some(self.mapping(names.mappings)?);
+            mapping = Some(self.mapping()?);
         }
         let options = self.options(Verb::Violations)?;
         Ok(Look::Violations {
@@ -125,12 +127,10 @@ impl<'a> Cursor<'a> {
         })
     }
 
-    fn export(&mut self, names: &Names<'_>) -> Result<Look, Refusal> {
+    fn export(&mut self) -> Result<Look, Refusal> {
         let mut relation = None;
         if self.is_name() {
-            let at = self.at();
-            let name = self.name("a relation")?;
-            relation = Some(self.relation_at(names.relations, at, name)?);
+            relation = Some(self.relation()?);
         }
         let mut options = self.options(Verb::Export)?;
         Ok(Look::Export(Export {
@@ -138,6 +138,7 @@ impl<'a> Cursor<'a> {
             csv: options.has(Opt::Csv),
             sql: options.has(Opt::Sql),
             json: options.has(Opt::Json),
+            sqlite: options.take_word(Opt::Sqlite),
             to: options.take_word(Opt::To),
         }))
     }

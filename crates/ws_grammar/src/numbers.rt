@@ -2,6 +2,8 @@
 
 use crate::bytes::number_run;
 use crate::cursors::Cursor;
+use crate::items::Item;
+use std::alloc::{AllocError, Global};
 use std::collections::BTreeSet;
 use ws_fault::{Refusal, Status};
 
@@ -20,8 +22,8 @@ impl<'a> Cursor<'a> {
                 return Ok(number);
             }
         }
-        let words = format!(in self.alloc; "{text} is out of range: {low} to {high}")?;
-        self.refuse(Status::Unread, self.at(), words, None)
+        let words = format!(in self.alloc; "{text} is out of range: {low} to {high}");
+        self.refuse(Status::Unread, self.at(), words, Ok(None))
     }
 
     /// A number without a sign, from the lowest to the highest.
@@ -56,8 +58,8 @@ impl<'a> Cursor<'a> {
         }
         let length = last.saturating_sub(first) as usize;
         if last < first || MOST < numbers.len().saturating_add(length).saturating_add(1) {
-            let words = format!(in self.alloc; "the range {first}..{last} is empty or too long")?;
-            return self.refuse(Status::Unread, at, words, None);
+            let words = format!(in self.alloc; "the range {first}..{last} is empty or too long");
+            return self.refuse(Status::Unread, at, words, Ok(None));
         }
         for number in first..=last {
             numbers.push(number)?;
@@ -67,25 +69,25 @@ impl<'a> Cursor<'a> {
 
     /// Numbers of updates, each once, in the order in which they stand first.
     pub(crate) fn distinct_numbers(&mut self) -> Result<Vec<u32>, Refusal> {
-        let mut seen = BTreeSet::new(self.alloc);
-        let mut distinct = Vec::new(self.alloc);
-        for number in self.numbers()? {
-            if seen.insert(number)? {
-                distinct.push(number)?;
-            }
-        }
-        Ok(distinct)
+        let numbers = self.numbers()?;
+        Ok(each_once(self.alloc, numbers.as_slice())?)
     }
+}
 
-    /// Candidates by their numbers.
-    pub(crate) fn candidates(&mut self) -> Result<Vec<u32>, Refusal> {
-        let mut numbers = Vec::new(self.alloc);
-        for _ in 0..u64::MAX {
-            numbers.push(self.count("a candidate's number", 1, u32::MAX)?)?;
-            if !self.take_sign(",") {
-                break;
-            }
-        }
-        Ok(numbers)
+// A candidate, by its number.
+impl Item for u32 {
+    fn read(cursor: &mut Cursor<'_>) -> Result<u32, Refusal> {
+        cursor.count("a candidate's number", 1, u32::MAX)
     }
+}
+
+fn each_once(alloc: Global, numbers: &[u32]) -> Result<Vec<u32>, AllocError> {
+    let mut seen = BTreeSet::new(alloc);
+    let mut distinct = Vec::new(alloc);
+    for number in numbers {
+        if seen.insert(*number)? {
+            distinct.push(*number)?;
+        }
+    }
+    Ok(distinct)
 }

@@ -2,40 +2,43 @@
 
 use crate::bytes::option_run;
 use crate::cursors::Cursor;
+use crate::known::Known;
 use std::alloc::AllocError;
-use ws_command::{Opt, OptKind, Verb};
-use ws_fault::{Nearest, Refusal, Status};
-use ws_print::Text;
+use ws_command::{Bounds, Opt, OptKind, Verb};
+use ws_fault::{Refusal, Status};
 use ws_written::STEPS;
 
-/// What was given with an option.
+// An option with the number or the word that was given after it, if it takes one.
 #[derive(Drop)]
-pub(crate) enum Given {
-    Flag,
-    Number(u32),
-    Word(String),
+struct Given {
+    opt: Opt,
+    number: u32,
+    word: Option<String>,
 }
 
 /// The options that were given, each once.
 #[derive(Drop)]
 pub(crate) struct Options {
-    given: Vec<(Opt, Given)>,
+    given: Vec<Given>,
 }
 
 impl Options {
-    pub(crate) fn has(&self, opt: Opt) -> bool {
-        self.given.iter().any(|(o, _)| *o == opt)
-    }
-
-    pub(crate) fn number(&self, opt: Opt) -> Option<u32> {
-        for (o, given) in self.given.iter() {
-            if let Given::Number(number) = given {
-                if *o == opt {
-                    return Some(*number);
-                }
+    fn given(&self, opt: Opt) -> Option<&Given> {
+        for given in self.given.iter() {
+            if given.opt == opt {
+                return Some(given);
             }
         }
         None
+    }
+
+    pub(crate) fn has(&self, opt: Opt) -> bool {
+        self.given(opt).is_some()
+    }
+
+    /// The number of an option that takes one.
+    pub(crate) fn number(&self, opt: Opt) -> Option<u32> {
+        Some(self.given(opt)?.number)
     }
 
     /// The budget: that of `--steps`, or the usual one.
@@ -43,23 +46,42 @@ impl Options {
         self.number(Opt::Steps).unwrap_or(STEPS)
     }
 
+    /// The record of `--still`.
+    pub(crate) fn still(&self) -> Option<u32> {
+        self.number(Opt::Still)
+    }
+
+    /// How far an update may go.
+    pub(crate) fn bounds(&self) -> Bounds {
+        Bounds {
+            only: self.has(Opt::Only),
+            cascade: self.has(Opt::Cascade),
+            steps: self.steps(),
+        }
+    }
+
     /// Takes the word of an option out.
     pub(crate) fn take_word(&mut self, opt: Opt) -> Option<String> {
-        for (o, given) in self.given.iter_mut() {
-            if *o == opt {
-                return match std::mem::replace(given, Given::Flag) {
-                    Given::Word(word) => Some(word),
-                    _ => None,
-                };
+        for given in self.given.iter_mut() {
+            if given.opt == opt {
+                return given.word.take();
             }
         }
         None
     }
 }
 
-// The option of this name, among those that a verb takes.
+// The option of this name, among those that a verb takes. `--sqlite` is not among those that are told.
 fn option_named(verb: Verb, name: &str) -> Option<Opt> {
-    verb.options().iter().copied().find(|o| o.name() == name)
+    if verb == Verb::Export && name == Opt::Sqlite.name() {
+        return Some(Opt::Sqlite);
+    }
+    for opt in verb.options() {
+        if opt.name() == name {
+            return Some(*opt);
+        }
+    }
+    None
 }
 
 impl<'a> Cursor<'a> {
@@ -72,69 +94,68 @@ impl<'a> Cursor<'a> {
             if self.is_done() {
                 break;
             }
-            let opt = self.option(verb, &options)?;
-            let given = self.given(opt)?;
-            options.given.push((opt, given))?;
+            let given = self.option(verb, &options)?;
+            options.given.push(given)?;
         }
         Ok(options)
     }
 
-    // The name of an option that was not given yet.
-    fn option(&mut self, verb: Verb, options: &Options) -> Result<Opt, Refusal> {
+    // An option that was not given yet.
+    fn option(&mut self, verb: Verb, options: &Options) -> Result<Given, Refusal> {
         let Some((name, rest)) = option_run(self.rest) else {
             return self.fail("the end of the line");
         };
         let Some(opt) = option_named(verb, name) else {
-            let word = verb.word();
-            let words = format!(in self.alloc; "{word} has no option --{name}")?;
-            let hint = self.option_hint(verb, name)?;
-            return self.refuse(Status::Unread, self.at(), words, Some(hint));
+            return self.no_option(verb, name);
         };
         if options.has(opt) {
-            let words = format!(in self.alloc; "--{name} stands twice")?;
-            return self.refuse(Status::Unread, self.at(), words, None);
+            let words = format!(in self.alloc; "--{name} stands twice");
+            return self.refuse(Status::Unread, self.at(), words, Ok(None));
         }
         self.go_on(rest);
-        Ok(opt)
+        self.given(opt)
+    }
+
+    // No option of a verb has this name.
+    fn no_option(&self, verb: Verb, name: &str) -> Result<Given, Refusal> {
+        let word = verb.word();
+        let words = format!(in self.alloc; "{word} has no option --{name}");
+        let hint = self.option_hint(verb, name);
+        self.refuse(Status::Unread, self.at(), words, hint)
     }
 
     // Which option may have been meant, or those that there are.
-    fn option_hint(&self, verb: Verb, name: &str) -> Result<String, AllocError> {
-        let mut nearest = Nearest::to(self.alloc, name)?;
-        for opt in verb.options() {
-            nearest.consider(opt.name())?;
-        }
-        if let Some(question) = nearest.question()? {
-            return Ok(question);
-        }
+    fn option_hint(&self, verb: Verb, name: &str) -> Result<Option<String>, AllocError> {
         if verb.options().is_empty() {
-            return String::from_str(self.alloc, "it has none");
+            return self.hint("it has none");
         }
-        let mut known = Text::from_str(self.alloc, "it has ");
-        for (place, opt) in verb.options().iter().enumerate() {
-            known.push_str(if 0 < place { ", --" } else { "--" });
-            known.push_str(opt.name());
+        let mut known = Known::to(self.alloc, name, "it has --", ", --")?;
+        for opt in verb.options() {
+            known.add(opt.name())?;
         }
-        known.done()
+        known.hint()
     }
 
-    // What stands after an option.
+    // An option with what stands after it.
     fn given(&mut self, opt: Opt) -> Result<Given, Refusal> {
+        let (number, word) = match opt.kind() {
+            OptKind::Flag => (0, None),
+            OptKind::Count => (self.given_number(opt, 1, 1_000_000)?, None),
+            OptKind::Record => (self.given_number(opt, 0, u32::MAX)?, None),
+            OptKind::Word => (0, Some(self.given_word(opt)?)),
+        };
+        Ok(Given { opt, number, word })
+    }
+
+    fn given_number(&mut self, opt: Opt, low: u32, high: u32) -> Result<u32, Refusal> {
         let name = opt.name();
-        match opt.kind() {
-            OptKind::Flag => Ok(Given::Flag),
-            OptKind::Count => {
-                let expected = format!(in self.alloc; "a number behind --{name}")?;
-                Ok(Given::Number(self.count(expected.as_str(), 1, 1_000_000)?))
-            }
-            OptKind::Record => {
-                let expected = format!(in self.alloc; "a number behind --{name}")?;
-                Ok(Given::Number(self.count(expected.as_str(), 0, u32::MAX)?))
-            }
-            OptKind::Word => {
-                let expected = format!(in self.alloc; "a word behind --{name}")?;
-                Ok(Given::Word(self.word(expected.as_str())?))
-            }
-        }
+        let expected = format!(in self.alloc; "a number behind --{name}")?;
+        self.count(expected.as_str(), low, high)
+    }
+
+    fn given_word(&mut self, opt: Opt) -> Result<String, Refusal> {
+        let name = opt.name();
+        let expected = format!(in self.alloc; "a word behind --{name}")?;
+        self.word(expected.as_str())
     }
 }

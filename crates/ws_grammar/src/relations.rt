@@ -1,30 +1,56 @@
 //! Relations as they are declared.
 
 use crate::cursors::Cursor;
+use crate::items::Item;
+use crate::standing::Names;
+use std::alloc::Global;
 use ws_fault::{Refusal, Status};
 use ws_written::{Column, Relation};
 
 /// The most columns of a relation.
 const MOST: usize = 8;
 
-impl<'a> Cursor<'a> {
-    /// A relation that is declared.
-    pub(crate) fn new_relation(&mut self) -> Result<Relation, Refusal> {
-        let name = self.plain_name("a name of the relation")?;
-        if self.is_number() {
-            let columns = self.counted_columns()?;
-            return Ok(Relation { name, columns });
+// A relation that is declared.
+impl Item for Relation {
+    fn read(cursor: &mut Cursor<'_>) -> Result<Relation, Refusal> {
+        let name = cursor.plain_name("a name of the relation")?;
+        let columns = cursor.new_columns(name.as_str())?;
+        Ok(Relation { name, columns })
+    }
+}
+
+/// The relation that a text declares: `NAME(COLUMN, ..)` or `NAME K`. It is refused for its first fault from the left, or for
+/// want of memory.
+pub fn read_relation(alloc: Global, text: &str) -> Result<Relation, Refusal> {
+    Cursor::over(alloc, Names::of(&[]), text).last()
+}
+
+// Whether one of the columns has this name, but for capitals.
+fn has_column(columns: &[Column], name: &str) -> bool {
+    for column in columns {
+        if column.name.as_str().eq_ignore_ascii_case(name) {
+            return true;
         }
-        if !self.is_sign("(") {
-            let hint = format!(in self.alloc; "such as relation {name}(title, painter)")?;
-            return self.fail_with("( and the columns", hint.as_str());
+    }
+    false
+}
+
+impl<'a> Cursor<'a> {
+    // The columns of a relation: their number, or their names between brackets.
+    fn new_columns(&mut self, relation: &str) -> Result<Vec<Column>, Refusal> {
+        if self.is_number() {
+            return self.counted_columns();
         }
         let at = self.at();
+        if !self.take_sign("(") {
+            let hint = format!(in self.alloc; "such as relation {relation}(title, painter)")?;
+            return self.fail_with("( and the columns", hint.as_str());
+        }
         let columns = self.columns()?;
         if MOST < columns.len() {
             return self.unread(at, "a relation has 8 columns at most", "");
         }
-        Ok(Relation { name, columns })
+        Ok(columns)
     }
 
     // So many columns: c1, c2, ..
@@ -40,7 +66,6 @@ impl<'a> Cursor<'a> {
 
     fn columns(&mut self) -> Result<Vec<Column>, Refusal> {
         let mut columns = Vec::new(self.alloc);
-        self.sign("(", "(")?;
         for _ in 0..u64::MAX {
             let column = self.column_after(columns.as_slice())?;
             columns.push(column)?;
@@ -55,12 +80,9 @@ impl<'a> Cursor<'a> {
     fn column_after(&mut self, before: &[Column]) -> Result<Column, Refusal> {
         let at = self.at();
         let name = self.plain_name("a column")?;
-        let twice = before
-            .iter()
-            .any(|c| c.name.as_str().eq_ignore_ascii_case(name.as_str()));
-        if twice {
-            let words = format!(in self.alloc; "column {name} stands twice")?;
-            return self.refuse(Status::Unread, at, words, None);
+        if has_column(before, name.as_str()) {
+            let words = format!(in self.alloc; "column {name} stands twice");
+            return self.refuse(Status::Unread, at, words, Ok(None));
         }
         let key = self.take_sign("*");
         Ok(Column { name, key })

@@ -1,6 +1,6 @@
 //! How many lines of the input belong to a line.
 
-use crate::bytes::{after_blanks, digit_run, is_blank, name_run, option_run, unblank_run};
+use crate::bytes::{Kind, after_blanks, is_blank, name_run, option_run, run, text_of};
 
 // What stands after the text between quotes that begins here; None if it is not closed.
 fn after_text(bytes: &[u8]) -> Option<&[u8]> {
@@ -34,12 +34,11 @@ fn after_load(line: &[u8]) -> Option<&[u8]> {
 // The number of `--lines N` at the beginning of the bytes.
 fn lines_here(bytes: &[u8]) -> Option<u64> {
     let (name, rest) = option_run(bytes)?;
-    let (digits, _) = digit_run(after_blanks(rest));
+    let (digits, _) = run(after_blanks(rest), Kind::Digit);
     if name != "lines" || digits.is_empty() {
         return None;
     }
-    let digits = str::from_utf8(digits).ok()?;
-    Some(digits.parse::<u64>().unwrap_or(u64::MAX))
+    Some(text_of(digits).parse::<u64>().unwrap_or(u64::MAX))
 }
 
 // What stands after the token here.
@@ -50,7 +49,7 @@ fn after_token(bytes: &[u8]) -> &[u8] {
     if let Some((_, rest)) = option_run(bytes) {
         return rest;
     }
-    unblank_run(bytes).1
+    run(bytes, Kind::Unblank).1
 }
 
 /// How many of the next lines of the input belong to this one, also if it is refused: those of `load .. --lines N` or

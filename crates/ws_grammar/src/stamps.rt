@@ -1,8 +1,11 @@
 //! Times, names and stamps.
 
-use crate::bytes::name_run;
+use crate::bytes::{cut_at, name_run};
 use std::alloc::{AllocError, Global};
 use ws_written::Stamp;
+
+// The form of a time, with a `d` for each digit.
+const FORM: &str = "dddd-dd-ddTdd:dd:ddZ";
 
 /// Whether a text is a name: a letter or `_`, and then letters, digits and `_`.
 pub fn is_name(text: &str) -> bool {
@@ -14,15 +17,24 @@ pub fn is_name(text: &str) -> bool {
 
 /// Whether a text has the form of a time, `YYYY-MM-DDThh:mm:ssZ`.
 pub fn is_time(text: &str) -> bool {
-    let form = "dddd-dd-ddTdd:dd:ddZ";
-    text.len() == form.len() && text.bytes().zip(form.bytes()).all(fits_form)
+    if text.len() != FORM.len() {
+        return false;
+    }
+    for (place, byte) in text.as_bytes().iter().enumerate() {
+        match FORM.as_bytes().get(place) {
+            Some(form) if fits(*byte, *form) => {}
+            _ => return false,
+        }
+    }
+    true
 }
 
-fn fits_form(pair: (u8, u8)) -> bool {
-    if pair.1 == b'd' {
-        return pair.0.is_ascii_digit();
+// Whether a byte may stand where the form of a time has this one.
+fn fits(byte: u8, form: u8) -> bool {
+    if form == b'd' {
+        return byte.is_ascii_digit();
     }
-    pair.0 == pair.1
+    byte == form
 }
 
 /// The stamp of two texts, if they are a time and a name.
@@ -40,22 +52,9 @@ pub(crate) fn stamp_of(
     }))
 }
 
-/// The stamp that a line is: `TIME CURATOR`.
-pub(crate) fn stamp_line(alloc: Global, line: &str) -> Result<Option<Stamp>, AllocError> {
-    match line.split_once(' ') {
-        Some((time, curator)) => stamp_of(alloc, time, curator),
-        None => Ok(None),
-    }
-}
-
 /// The stamp of a record's first line: `TIME CURATOR`; further words are for later and are passed over.
 pub(crate) fn record_stamp(alloc: Global, line: &str) -> Result<Option<Stamp>, AllocError> {
-    let Some((time, rest)) = line.split_once(' ') else {
-        return Ok(None);
-    };
-    let curator = match rest.split_once(' ') {
-        Some((curator, _)) => curator,
-        None => rest,
-    };
+    let (time, rest) = cut_at(line, ' ');
+    let (curator, _) = cut_at(rest, ' ');
     stamp_of(alloc, time, curator)
 }

@@ -1,8 +1,9 @@
 //! The names that stand.
 
 use crate::cursors::Cursor;
+use crate::known::{Known, has_name};
 use std::alloc::{AllocError, Global};
-use ws_fault::{Nearest, Refusal, Status};
+use ws_fault::{Refusal, Status};
 use ws_print::{Text, add_count, add_form};
 use ws_written::Relation;
 
@@ -14,30 +15,40 @@ pub struct Names<'a> {
     pub mappings: &'a [String],
 }
 
-/// The number of a relation.
-pub(crate) fn number_of(relations: &[Relation], name: &str) -> Option<u32> {
-    let place = relations.iter().position(|r| r.name.as_str() == name)?;
-    u32::try_from(place).ok()
+impl<'a> Names<'a> {
+    /// Those of relations alone.
+    pub(crate) fn of(relations: &'a [Relation]) -> Names<'a> {
+        Names {
+            relations,
+            mappings: &[],
+        }
+    }
+}
+
+/// The place of the relation of this name.
+pub fn place_of(relations: &[Relation], name: &str) -> Option<usize> {
+    for (place, relation) in relations.iter().enumerate() {
+        if relation.name.as_str() == name {
+            return Some(place);
+        }
+    }
+    None
 }
 
 // What may be done if there is no such relation.
-fn relation_hint(alloc: Global, relations: &[Relation], name: &str) -> Result<String, AllocError> {
-    let mut nearest = Nearest::to(alloc, name)?;
-    for relation in relations {
-        nearest.consider(relation.name.as_str())?;
-    }
-    if let Some(question) = nearest.question()? {
-        return Ok(question);
-    }
+fn relation_hint(
+    alloc: Global,
+    relations: &[Relation],
+    name: &str,
+) -> Result<Option<String>, AllocError> {
     if relations.is_empty() {
-        return format!(in alloc; "make one: relation {name}(COLUMN, ..)");
+        return Ok(Some(format!(in alloc; "make one: relation {name}(COLUMN, ..)")?));
     }
-    let mut known = Text::from_str(alloc, "known: ");
-    for (place, relation) in relations.iter().enumerate() {
-        known.push_str(if 0 < place { ", " } else { "" });
-        known.push_str(relation.name.as_str());
+    let mut known = Known::to(alloc, name, "known: ", ", ")?;
+    for relation in relations {
+        known.add(relation.name.as_str())?;
     }
-    known.done()
+    known.hint()
 }
 
 // What may be done if there is no such mapping.
@@ -46,73 +57,64 @@ fn mapping_hint(
     mappings: &[String],
     name: &str,
 ) -> Result<Option<String>, AllocError> {
-    let mut nearest = Nearest::to(alloc, name)?;
+    if mappings.is_empty() {
+        return Ok(None);
+    }
+    let mut known = Known::to(alloc, name, "known: ", ", ")?;
     for mapping in mappings {
-        nearest.consider(mapping.as_str())?;
+        known.add(mapping.as_str())?;
     }
-    if nearest.name().is_some() || mappings.is_empty() {
-        return nearest.question();
-    }
-    let mut known = Text::from_str(alloc, "known: ");
-    for (place, mapping) in mappings.iter().enumerate() {
-        known.push_str(if 0 < place { ", " } else { "" });
-        known.push_str(mapping.as_str());
-    }
-    let known = known.done()?;
-    Ok(Some(known))
+    known.hint()
 }
 
 impl<'a> Cursor<'a> {
-    /// The relation whose name stood at a place.
-    pub(crate) fn relation_at(
-        &self,
-        relations: &[Relation],
-        at: usize,
-        name: &str,
-    ) -> Result<u32, Refusal> {
-        if let Some(number) = number_of(relations, name) {
-            return Ok(number);
+    /// A relation by its name.
+    pub(crate) fn relation(&mut self) -> Result<u32, Refusal> {
+        let at = self.at();
+        let name = self.name("a relation")?;
+        self.relation_at(at, name)
+    }
+
+    // The relation whose name stood at a place.
+    fn relation_at(&self, at: usize, name: &str) -> Result<u32, Refusal> {
+        if let Some(place) = place_of(self.names.relations, name) {
+            return Ok(u32::try_from(place).unwrap_or(u32::MAX));
         }
-        let hint = relation_hint(self.alloc, relations, name)?;
-        let words = format!(in self.alloc; "there is no relation {name}")?;
-        self.refuse(Status::Refused, at, words, Some(hint))
+        let hint = relation_hint(self.alloc, self.names.relations, name);
+        let words = format!(in self.alloc; "there is no relation {name}");
+        self.refuse(Status::Refused, at, words, hint)
     }
 
     /// The relation whose name stood at a place, in front of so many values or terms.
-    pub(crate) fn relation_of(
-        &self,
-        relations: &[Relation],
-        at: usize,
-        name: &str,
-        found: usize,
-    ) -> Result<u32, Refusal> {
-        let number = self.relation_at(relations, at, name)?;
-        let Some(relation) = relations.get(number as usize) else {
-            return Ok(number);
-        };
-        if relation.columns.len() == found {
-            return Ok(number);
+    pub(crate) fn relation_of(&self, at: usize, name: &str, found: usize) -> Result<u32, Refusal> {
+        let number = self.relation_at(at, name)?;
+        match self.names.relations.get(number as usize) {
+            Some(relation) if relation.columns.len() != found => self.misfit(at, relation, found),
+            _ => Ok(number),
         }
-        let mut words = Text::new(self.alloc);
-        write!(words, "{name} has ");
-        add_count(&mut words, relation.columns.len(), "column");
-        write!(words, ", found {found}");
-        let words = words.done()?;
+    }
+
+    // The relation at a place does not have so many columns.
+    fn misfit(&self, at: usize, relation: &Relation, found: usize) -> Result<u32, Refusal> {
         let mut form = Text::from_str(self.alloc, "it is ");
         add_form(&mut form, relation);
         let form = form.done()?;
-        self.refuse(Status::Refused, at, words, Some(form))
+        let mut words = Text::from_str(self.alloc, relation.name.as_str());
+        words.push_str(" has ");
+        add_count(&mut words, relation.columns.len(), "column");
+        write!(words, ", found {found}");
+        self.refuse(Status::Refused, at, words.done(), Ok(Some(form)))
     }
 
     /// The name of a mapping that is there.
-    pub(crate) fn mapping(&mut self, mappings: &[String]) -> Result<String, Refusal> {
+    pub(crate) fn mapping(&mut self) -> Result<String, Refusal> {
         let at = self.at();
         let name = self.name("a mapping")?;
-        if mappings.iter().any(|m| m.as_str() == name) {
+        if has_name(self.names.mappings, name) {
             return Ok(String::from_str(self.alloc, name)?);
         }
-        let hint = mapping_hint(self.alloc, mappings, name)?;
-        let words = format!(in self.alloc; "there is no mapping {name}")?;
+        let hint = mapping_hint(self.alloc, self.names.mappings, name);
+        let words = format!(in self.alloc; "there is no mapping {name}");
         self.refuse(Status::Refused, at, words, hint)
     }
 
@@ -122,8 +124,8 @@ impl<'a> Cursor<'a> {
         let name = self.name(expected)?;
         if is_kept(name) {
             let words = "names that begin with _ or yt_ are kept for yt";
-            let words = String::from_str(self.alloc, words)?;
-            return self.refuse(Status::Refused, at, words, None);
+            let words = String::from_str(self.alloc, words);
+            return self.refuse(Status::Refused, at, words, Ok(None));
         }
         Ok(String::from_str(self.alloc, name)?)
     }

@@ -1,6 +1,6 @@
 //! Texts between quotes, and words.
 
-use crate::bytes::{cut, text_of, unblank_run};
+use crate::bytes::{Kind, cut, run, text_of};
 use crate::cursors::Cursor;
 use std::alloc::AllocError;
 use ws_fault::{Refusal, Status};
@@ -14,8 +14,7 @@ const ESCAPES: &str = "a backslash is followed by one of \" \\ n u{..}";
 
 // The hexadecimal digits of `\u{HEX}` after its brace, one to six, and what stands after the closing one.
 fn hex_run(bytes: &[u8]) -> Option<(&str, &[u8])> {
-    let end = bytes.iter().position(|b| !b.is_ascii_hexdigit())?;
-    let (digits, rest) = cut(bytes, end);
+    let (digits, rest) = run(bytes, Kind::HexDigit);
     let rest = rest.strip_prefix(b"}")?;
     if digits.is_empty() || 6 < digits.len() {
         return None;
@@ -68,8 +67,8 @@ impl<'a> Cursor<'a> {
     fn closed_text(&mut self, open: usize, bytes: Vec<u8>) -> Result<String, Refusal> {
         let length = bytes.len();
         if MOST < length {
-            let words = format!(in self.alloc; "a text has 256 bytes at most, this one {length}")?;
-            return self.refuse(Status::Unread, open, words, None);
+            let words = format!(in self.alloc; "a text has 256 bytes at most, this one {length}");
+            return self.refuse(Status::Unread, open, words, Ok(None));
         }
         self.pass(1);
         self.go_on(self.rest);
@@ -110,7 +109,7 @@ impl<'a> Cursor<'a> {
         if self.is_sign("\"") {
             return self.text();
         }
-        let (word, rest) = unblank_run(self.rest);
+        let (word, rest) = run(self.rest, Kind::Unblank);
         if word.is_empty() {
             return self.fail(expected);
         }

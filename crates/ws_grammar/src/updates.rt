@@ -1,89 +1,32 @@
 //! Updates and answers of the log.
 
 use crate::cursors::Cursor;
+use crate::items::Item;
 use ws_fault::Refusal;
-use ws_written::{
-    Answer, Choice, NewFact, NumberedUpdate, Question, Relation, STEPS, Update, Value,
-};
+use ws_written::{Answer, Choice, Fact, NumberedUpdate, Question, STEPS, Unknown, Update, Value};
 
-impl<'a> Cursor<'a> {
-    /// `N [steps N] UPDATE`.
-    pub(crate) fn numbered(&mut self, relations: &[Relation]) -> Result<NumberedUpdate, Refusal> {
-        let number = self.update_number()?;
+// `N [steps N] UPDATE`.
+impl Item for NumberedUpdate {
+    fn read(cursor: &mut Cursor<'_>) -> Result<NumberedUpdate, Refusal> {
+        let number = cursor.update_number()?;
         let mut steps = STEPS;
-        if self.take_word("steps") {
-            steps = self.count("steps", 1, 1_000_000)?;
+        if cursor.take_word("steps") {
+            steps = cursor.count("steps", 1, 1_000_000)?;
         }
-        let update = self.update(relations)?;
+        let update = cursor.update()?;
         Ok(NumberedUpdate {
             number,
             steps,
             update,
         })
     }
+}
 
-    fn update(&mut self, relations: &[Relation]) -> Result<Update, Refusal> {
-        let verb = self.name("an update")?;
-        match verb {
-            "insert" => Ok(Update::Insert(self.new_facts(relations)?)),
-            "delete" => Ok(Update::Delete(self.facts(relations)?)),
-            "replace" => self.replacing(relations),
-            "fix" => self.fix(),
-            "force" => Ok(Update::Force(self.owned_name()?)),
-            "drop" => Ok(Update::Drop(self.owned_name()?)),
-            _ => self.fail("an update"),
-        }
-    }
-
-    /// A name of a mapping or a variable.
-    pub(crate) fn owned_name(&mut self) -> Result<String, Refusal> {
-        let name = self.name("a name")?;
-        Ok(String::from_str(self.alloc, name)?)
-    }
-
-    fn replacing(&mut self, relations: &[Relation]) -> Result<Update, Refusal> {
-        if self.is_sign("?") {
-            let unknown = self.known_unknown()?;
-            self.with()?;
-            return Ok(Update::Fill(unknown, self.value()?));
-        }
-        let old = self.fact(relations)?;
-        let new = self.with_new_fact(relations)?;
-        Ok(Update::Change(old, new))
-    }
-
-    // `with` and a tuple in which new unknowns may stand.
-    fn with_new_fact(&mut self, relations: &[Relation]) -> Result<NewFact, Refusal> {
-        self.with()?;
-        self.new_fact(relations)
-    }
-
-    // `fix m(V, ..)`, or `fix m()` if no variable stands on both sides.
-    fn fix(&mut self) -> Result<Update, Refusal> {
-        let mapping = self.owned_name()?;
-        let values = self.fix_values()?;
-        Ok(Update::Fix(mapping, values))
-    }
-
-    fn fix_values(&mut self) -> Result<Vec<Value>, Refusal> {
-        let mut values = Vec::new(self.alloc);
-        self.sign("(", "(")?;
-        if self.take_sign(")") {
-            return Ok(values);
-        }
-        for _ in 0..u64::MAX {
-            values.push(self.value()?)?;
-            if self.closes()? {
-                break;
-            }
-        }
-        Ok(values)
-    }
-
-    /// `CHOICE to NAME FACT, ..`, after the verb and the number of an answer.
-    pub(crate) fn answer(&mut self, relations: &[Relation]) -> Result<Answer, Refusal> {
-        let choice = self.chosen(relations)?;
-        match self.question(relations) {
+// `CHOICE to NAME FACT, ..`, after the verb and the number of an answer.
+impl Item for Answer {
+    fn read(cursor: &mut Cursor<'_>) -> Result<Answer, Refusal> {
+        let choice = cursor.chosen()?;
+        match cursor.question() {
             Ok(question) => Ok(Answer { choice, question }),
             Err(refusal) => {
                 drop(choice);
@@ -91,26 +34,67 @@ impl<'a> Cursor<'a> {
             }
         }
     }
+}
+
+impl<'a> Cursor<'a> {
+    fn update(&mut self) -> Result<Update, Refusal> {
+        match self.name("an update")? {
+            "insert" => Ok(Update::Insert(self.joined()?)),
+            "delete" => Ok(Update::Delete(self.joined()?)),
+            "replace" => self.replacing(),
+            "fix" => self.fix(),
+            "force" => Ok(Update::Force(self.owned_name("a name")?)),
+            "drop" => Ok(Update::Drop(self.owned_name("a name")?)),
+            _ => self.fail("an update"),
+        }
+    }
+
+    /// `with` and an item.
+    pub(crate) fn with<T: Item>(&mut self) -> Result<T, Refusal> {
+        self.keyword("with")?;
+        T::read(self)
+    }
+
+    fn replacing(&mut self) -> Result<Update, Refusal> {
+        if self.is_sign("?") {
+            let unknown = Unknown::read(self)?;
+            return Ok(Update::Fill(unknown, self.with()?));
+        }
+        let old = Fact::read(self)?;
+        Ok(Update::Change(old, self.with()?))
+    }
+
+    // `fix m(V, ..)`, or `fix m()` if no variable stands on both sides.
+    fn fix(&mut self) -> Result<Update, Refusal> {
+        let mapping = self.owned_name("a name")?;
+        Ok(Update::Fix(mapping, self.fix_values()?))
+    }
+
+    fn fix_values(&mut self) -> Result<Vec<Value>, Refusal> {
+        self.sign("(", "(")?;
+        if self.take_sign(")") {
+            return Ok(Vec::new(self.alloc));
+        }
+        self.to_bracket()
+    }
 
     // `to NAME FACT, ..`.
-    fn question(&mut self, relations: &[Relation]) -> Result<Question, Refusal> {
-        if !self.take_word("to") {
-            return self.fail("to");
-        }
-        let mapping = self.owned_name()?;
-        let facts = self.facts(relations)?;
+    fn question(&mut self) -> Result<Question, Refusal> {
+        self.keyword("to")?;
+        let mapping = self.owned_name("a name")?;
+        let facts = self.joined()?;
         Ok(Question { mapping, facts })
     }
 
-    fn chosen(&mut self, relations: &[Relation]) -> Result<Choice, Refusal> {
+    fn chosen(&mut self) -> Result<Choice, Refusal> {
         if self.take_word("expand") {
             return Ok(Choice::Expand);
         }
         if self.take_word("unify") {
-            return Ok(Choice::Unify(self.fact(relations)?));
+            return Ok(Choice::Unify(Fact::read(self)?));
         }
         if self.take_word("delete") {
-            return Ok(Choice::Delete(self.facts(relations)?));
+            return Ok(Choice::Delete(self.joined()?));
         }
         self.fail("a choice")
     }

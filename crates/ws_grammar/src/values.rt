@@ -1,7 +1,8 @@
 //! Values.
 
-use crate::bytes::{name_run, unknown_run};
+use crate::bytes::{Kind, name_run, run, text_of, unknown_run};
 use crate::cursors::Cursor;
+use crate::items::Item;
 use std::alloc::AllocError;
 use ws_fault::{Fault, Refusal, Status};
 use ws_written::{NewValue, Unknown, Value};
@@ -22,15 +23,12 @@ fn is_null_word(word: &str) -> bool {
         || word.eq_ignore_ascii_case("unknown")
 }
 
-// What stands after `?` or `?x` of a new unknown, and its name; None if a digit follows.
+// The name of a new unknown after `?`, empty if it has none, and what stands after it; None if a digit follows.
 fn new_run(bytes: &[u8]) -> Option<(&str, &[u8])> {
-    let rest = bytes.strip_prefix(b"?")?;
-    if let Some((name, after)) = name_run(rest) {
-        return Some((name, after));
-    }
-    match rest.first() {
-        Some(byte) if byte.is_ascii_digit() => None,
-        _ => Some(("", rest)),
+    let (name, rest) = run(bytes.strip_prefix(b"?")?, Kind::Name);
+    match name {
+        [first, ..] if first.is_ascii_digit() => None,
+        _ => Some((text_of(name), rest)),
     }
 }
 
@@ -127,37 +125,45 @@ impl<'a> Cursor<'a> {
         }
         format!(in self.alloc; "did you mean \"{word}\"? A text stands between two \" signs")
     }
+}
 
-    /// A value, or a new unknown.
-    pub(crate) fn new_value(&mut self) -> Result<NewValue, Refusal> {
-        if unknown_run(self.rest).is_some() {
-            return Ok(NewValue::Known(self.value()?));
+// A number, a text, or an unknown by its name.
+impl Item for Value {
+    fn read(cursor: &mut Cursor<'_>) -> Result<Value, Refusal> {
+        cursor.value()
+    }
+}
+
+// An unknown by its name.
+impl Item for Unknown {
+    fn read(cursor: &mut Cursor<'_>) -> Result<Unknown, Refusal> {
+        match cursor.value()? {
+            Value::Unknown(unknown) => Ok(unknown),
+            _ => cursor.fail("an unknown such as ?12.1"),
         }
-        let Some((name, rest)) = new_run(self.rest) else {
-            return Ok(NewValue::Known(self.value()?));
+    }
+}
+
+// A value, or a new unknown.
+impl Item for NewValue {
+    fn read(cursor: &mut Cursor<'_>) -> Result<NewValue, Refusal> {
+        let Some((name, rest)) = new_run(cursor.rest) else {
+            return Ok(NewValue::Known(cursor.value()?));
         };
-        self.go_on(rest);
+        cursor.go_on(rest);
         if name.is_empty() {
             return Ok(NewValue::Fresh);
         }
-        Ok(NewValue::Named(String::from_str(self.alloc, name)?))
+        Ok(NewValue::Named(String::from_str(cursor.alloc, name)?))
     }
+}
 
-    /// Takes `_`, if it stands here.
-    pub(crate) fn take_any(&mut self) -> bool {
-        self.take_word("_")
-    }
-
-    /// Values between brackets.
-    pub(crate) fn values(&mut self) -> Result<Vec<Value>, Refusal> {
-        let mut values = Vec::new(self.alloc);
-        self.sign("(", "(")?;
-        for _ in 0..u64::MAX {
-            values.push(self.value()?)?;
-            if self.closes()? {
-                break;
-            }
+// `_`, or an item.
+impl<T: Item> Item for Option<T> {
+    fn read(cursor: &mut Cursor<'_>) -> Result<Option<T>, Refusal> {
+        if cursor.take_word("_") {
+            return Ok(None);
         }
-        Ok(values)
+        Ok(Some(T::read(cursor)?))
     }
 }

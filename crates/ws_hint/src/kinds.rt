@@ -3,7 +3,7 @@
 use base_types::{Memory, Tuple, Value};
 use chase_match::Walk;
 use std::alloc::Global;
-use ws_report::{Note, value_text};
+use ws_report::{Note, named_text};
 use ws_space::Space;
 
 /// How many numbers and texts a column has.
@@ -44,17 +44,31 @@ pub(crate) fn kinds_of(alloc: Global, space: &Space, relation: u16) -> Result<Ve
         let Some(tuple) = walk.next() else {
             break;
         };
-        for (column, value) in kinds.iter_mut().zip(tuple.values.as_slice()) {
+        count_all(kinds.as_mut_slice(), tuple);
+    }
+    Ok(kinds)
+}
+
+fn count_all(kinds: &mut [Kinds], tuple: &Tuple) {
+    for (place, column) in kinds.iter_mut().enumerate() {
+        if let Some(value) = tuple.values.get(place) {
             column.count(value);
         }
     }
-    Ok(kinds)
 }
 
 // Whether it is `-` or nothing, and then digits.
 fn looks_like_number(bytes: &[u8]) -> bool {
     let digits = bytes.strip_prefix(b"-").unwrap_or(bytes);
-    !digits.is_empty() && digits.iter().all(|b| b.is_ascii_digit())
+    if digits.is_empty() {
+        return false;
+    }
+    for byte in digits {
+        if !byte.is_ascii_digit() {
+            return false;
+        }
+    }
+    true
 }
 
 // Whether the value is a text that looks like a number.
@@ -67,7 +81,12 @@ fn is_digits(value: &Value) -> bool {
 
 /// Whether a value of the tuple is a text that looks like a number.
 pub(crate) fn has_digits(tuple: &Tuple) -> bool {
-    tuple.values.as_slice().iter().any(is_digits)
+    for value in tuple.values.as_slice() {
+        if is_digits(value) {
+            return true;
+        }
+    }
+    false
 }
 
 /// Adds a hint for each text of digits that is the only text in a column of numbers.
@@ -82,17 +101,26 @@ pub(crate) fn add_kinds(
         return Ok(());
     };
     let texts = usize::from(space.has(tuple));
-    let named = declared.columns.iter().zip(kinds);
-    for ((name, column), value) in named.zip(tuple.values.as_slice()) {
-        if is_digits(value) && column.are_numbers_with(texts) {
-            let relation = declared.name.as_str();
-            let name = name.name.as_str();
-            let text = value_text(alloc, &space.value(alloc, value)?)?;
-            let words = format!(in alloc;
-                "{relation}.{name} has numbers so far, and {text} is a text"
-            )?;
+    for (place, value) in tuple.values.as_slice().iter().enumerate() {
+        let (Some(column), Some(kind)) = (declared.columns.get(place), kinds.get(place)) else {
+            return Ok(());
+        };
+        if is_digits(value) && kind.are_numbers_with(texts) {
+            let name = column.name.as_str();
+            let words = digits_words(alloc, space, declared.name.as_str(), name, value)?;
             notes.push(Note::of(alloc, words))?;
         }
     }
     Ok(())
+}
+
+fn digits_words(
+    alloc: Global,
+    space: &Space,
+    relation: &str,
+    column: &str,
+    value: &Value,
+) -> Result<String, Memory> {
+    let text = named_text(alloc, space, value)?;
+    Ok(format!(in alloc; "{relation}.{column} has numbers so far, and {text} is a text")?)
 }

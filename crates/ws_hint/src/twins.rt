@@ -1,6 +1,6 @@
 //! Tuples that may be the same as one that is inserted, and tuples of the same key.
 
-use crate::vague::{VagueColumn, is_unknown};
+use crate::vague::VagueColumn;
 use base_types::{Column, Memory, Null, Tuple, Value};
 use chase_match::Walk;
 use chase_unifier::is_more_specific;
@@ -9,7 +9,7 @@ use std::collections::BTreeSet;
 use ws_print::{Text, add_unknown, add_value};
 use ws_question::inner_text;
 use ws_report::Note;
-use ws_space::{Space, unknown_of};
+use ws_space::{Space, is_unknown, unknown_of};
 
 /// The most twins that are told.
 const TWINS: usize = 3;
@@ -21,19 +21,30 @@ pub(crate) fn twins_of(
     tuple: &Tuple,
 ) -> Result<BTreeSet<Tuple>, Memory> {
     let mut twins = BTreeSet::new(alloc);
-    for (column, value) in columns.iter().zip(tuple.values.as_slice()) {
+    for (place, value) in tuple.values.as_slice().iter().enumerate() {
         if is_unknown(value) {
             continue;
         }
-        for vague in column.with(value) {
-            if vague != tuple && is_more_specific(vague, tuple) {
-                if twins.insert(vague.share()?).is_err() {
-                    return Err(Memory);
-                }
-            }
+        if let Some(column) = columns.get(place) {
+            add_vague(&mut twins, column, value, tuple)?;
         }
     }
     Ok(twins)
+}
+
+// Adds the tuples with this value in the column that the tuple is more specific than.
+fn add_vague(
+    twins: &mut BTreeSet<Tuple>,
+    column: &VagueColumn,
+    value: &Value,
+    tuple: &Tuple,
+) -> Result<(), Memory> {
+    for vague in column.with(value) {
+        if vague != tuple && is_more_specific(vague, tuple) {
+            twins.insert(vague.share()?)?;
+        }
+    }
+    Ok(())
 }
 
 // `replace ?U.P with VALUE`.
@@ -54,16 +65,27 @@ fn fillings(
     tuple: &Tuple,
 ) -> Result<Vec<String>, Memory> {
     let mut commands = Vec::new(alloc);
-    let olds = twin.values.as_slice();
-    for (place, (old, new)) in olds.iter().zip(tuple.values.as_slice()).enumerate() {
-        let is_first = !olds.iter().take(place).any(|other| other == old);
+    for (place, old) in twin.values.as_slice().iter().enumerate() {
+        let Some(new) = tuple.values.get(place) else {
+            continue;
+        };
         if let Value::Null(null) = old {
-            if is_first && old != new {
+            if old != new && is_first(twin, place, old) {
                 commands.push(filling(alloc, space, *null, new)?)?;
             }
         }
     }
     Ok(commands)
+}
+
+// Whether the value at a place of the tuple stands at none before it.
+fn is_first(tuple: &Tuple, place: usize, value: &Value) -> bool {
+    for other in tuple.values.as_slice().iter().take(place) {
+        if other == value {
+            return false;
+        }
+    }
+    true
 }
 
 /// Adds a hint for each of the first twins.
@@ -98,8 +120,12 @@ fn key_places(alloc: Global, space: &Space, relation: u32) -> Result<Vec<usize>,
 }
 
 fn has_same_key(one: &Tuple, other: &Tuple, key: &[usize]) -> bool {
-    key.iter()
-        .all(|place| one.values.get(*place) == other.values.get(*place))
+    for place in key {
+        if one.values.get(*place) != other.values.get(*place) {
+            return false;
+        }
+    }
+    true
 }
 
 // The first other tuple of the same key that is no twin.

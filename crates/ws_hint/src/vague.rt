@@ -4,7 +4,7 @@ use base_types::{Memory, TryCopy, Tuple, Value};
 use chase_match::Walk;
 use std::alloc::Global;
 use std::collections::BTreeMap;
-use ws_space::Space;
+use ws_space::{Space, has_unknown, is_unknown};
 
 /// A column: by each value the tuples with unknowns that have it there, in order.
 #[derive(Drop)]
@@ -35,22 +35,11 @@ impl VagueColumn {
     }
 }
 
-/// Whether the value is an unknown.
-pub(crate) fn is_unknown(value: &Value) -> bool {
-    match value {
-        Value::Null(_) => true,
-        _ => false,
-    }
-}
-
-fn has_unknown(tuple: &Tuple) -> bool {
-    tuple.values.as_slice().iter().any(is_unknown)
-}
-
 fn add_tuple(alloc: Global, columns: &mut Vec<VagueColumn>, tuple: &Tuple) -> Result<(), Memory> {
-    for (column, value) in columns.iter_mut().zip(tuple.values.as_slice()) {
-        if !is_unknown(value) {
-            column.add(alloc, value, tuple)?;
+    for (place, column) in columns.iter_mut().enumerate() {
+        match tuple.values.get(place) {
+            Some(value) if !is_unknown(value) => column.add(alloc, value, tuple)?,
+            _ => {}
         }
     }
     Ok(())

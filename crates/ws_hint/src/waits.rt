@@ -7,31 +7,40 @@ use ws_report::{Note, said_text};
 use ws_space::Space;
 use ws_written::Fact;
 
-fn is_spelled(spelled: &Spelled, value: &Value) -> bool {
-    match spelled {
-        Spelled::Known(known) => known == value,
-        Spelled::New(_) => false,
+fn is_spelled(spelled: &Spelled, value: Option<&Value>) -> bool {
+    match (spelled, value) {
+        (Spelled::Known(known), Some(value)) => known == value,
+        _ => false,
     }
 }
 
 // Whether the line spells this tuple, by names.
 fn spells(spelled: &SpelledTuple, tuple: &Tuple) -> bool {
-    let values = tuple.values.as_slice();
-    spelled.relation == tuple.relation
-        && spelled.values.len() == values.len()
-        && spelled
-            .values
-            .as_slice()
-            .iter()
-            .zip(values)
-            .all(|(one, value)| is_spelled(one, value))
+    if spelled.relation != tuple.relation || spelled.values.len() != tuple.values.len() {
+        return false;
+    }
+    for (place, one) in spelled.values.as_slice().iter().enumerate() {
+        if !is_spelled(one, tuple.values.get(place)) {
+            return false;
+        }
+    }
+    true
 }
 
 fn inserts(update: &Update, tuple: &Tuple) -> bool {
     match &update.deed {
-        Deed::Insert(tuples) => tuples.as_slice().iter().any(|one| spells(one, tuple)),
+        Deed::Insert(tuples) => one_spells(tuples.as_slice(), tuple),
         _ => false,
     }
+}
+
+fn one_spells(spelled: &[SpelledTuple], tuple: &Tuple) -> bool {
+    for one in spelled {
+        if spells(one, tuple) {
+            return true;
+        }
+    }
+    false
 }
 
 // The other updates that wait with the tuple, by number.
@@ -63,14 +72,17 @@ pub(crate) fn add_waits(
 ) -> Result<(), Memory> {
     let tuple = space.tuple(alloc, fact)?;
     for other in waiting_with(alloc, space, &tuple, number)?.iter() {
-        let curator = space.curator_of(*other);
-        let text = said_text(alloc, space, fact)?;
-        let mut note = Note::of(
-            alloc,
-            format!(in alloc; "update {other} of {curator} waits with {text} too")?,
-        );
-        note.commands.push(format!(in alloc; "questions {other}")?)?;
-        notes.push(note)?;
+        notes.push(waiting_note(alloc, space, fact, *other)?)?;
     }
     Ok(())
+}
+
+// That another update waits with the tuple.
+fn waiting_note(alloc: Global, space: &Space, fact: &Fact, other: u32) -> Result<Note, Memory> {
+    let curator = space.curator_of(other);
+    let text = said_text(alloc, space, fact)?;
+    let words = format!(in alloc; "update {other} of {curator} waits with {text} too")?;
+    let mut note = Note::of(alloc, words);
+    note.commands.push(format!(in alloc; "questions {other}")?)?;
+    Ok(note)
 }

@@ -118,7 +118,9 @@ impl Inserted {
 
 // The line that inserts a tuple.
 fn insertion(alloc: Global, number: u32, steps: u32, fact: NewFact) -> Result<Line, AllocError> {
+    // A load has a list for each row: there is room for one tuple alone. If memory lacks for it, the push tells that.
     let mut facts = Vec::new(alloc);
+    let _ = facts.reserve_exact(1);
     facts.push(fact)?;
     Ok(Line::Update(NumberedUpdate {
         number,

@@ -10,16 +10,25 @@ use ws_written::Unknown;
 pub(crate) fn standing_unknowns(alloc: Global, space: &Space) -> Result<Vec<Unknown>, Memory> {
     let mut set = BTreeSet::new(alloc);
     for place in 0..space.relations.len() {
-        let relation = u32::try_from(place).unwrap_or(u32::MAX);
-        for tuple in space.rows(alloc, relation)? {
-            add_unknowns(&mut set, space, &tuple)?;
-        }
+        let rows = space.rows(alloc, u32::try_from(place).unwrap_or(u32::MAX))?;
+        add_all_unknowns(&mut set, space, rows.as_slice())?;
     }
     let mut unknowns = Vec::new(alloc);
     for unknown in set {
         unknowns.push(unknown)?;
     }
     Ok(unknowns)
+}
+
+fn add_all_unknowns(
+    set: &mut BTreeSet<Unknown>,
+    space: &Space,
+    rows: &[Tuple],
+) -> Result<(), Memory> {
+    for tuple in rows {
+        add_unknowns(set, space, tuple)?;
+    }
+    Ok(())
 }
 
 fn add_unknowns(set: &mut BTreeSet<Unknown>, space: &Space, tuple: &Tuple) -> Result<(), Memory> {

@@ -1,12 +1,11 @@
 //! Tuples of one key.
 
-use crate::rows::has_unknown;
 use base_types::{Memory, TryCopy, Tuple, ValueList};
 use std::alloc::Global;
 use std::collections::BTreeMap;
 use ws_print::Lines;
 use ws_question::inner_text;
-use ws_space::Space;
+use ws_space::{Space, has_unknown};
 use ws_written::Relation;
 
 /// The clashes of a relation's key: for each key that several tuples have these tuples, as commands take them.
@@ -20,7 +19,7 @@ pub(crate) struct Clashes {
 pub(crate) fn clashes_of(alloc: Global, space: &Space) -> Result<Vec<Clashes>, Memory> {
     let mut all = Vec::new(alloc);
     for (number, relation) in space.relations.iter().enumerate() {
-        if relation.columns.iter().any(|column| column.key) {
+        if has_key(relation) {
             let groups = clashing(alloc, space, number, relation)?;
             if !groups.is_empty() {
                 all.push(Clashes {
@@ -33,6 +32,15 @@ pub(crate) fn clashes_of(alloc: Global, space: &Space) -> Result<Vec<Clashes>, M
     Ok(all)
 }
 
+fn has_key(relation: &Relation) -> bool {
+    for column in relation.columns.iter() {
+        if column.key {
+            return true;
+        }
+    }
+    false
+}
+
 fn clashing(
     alloc: Global,
     space: &Space,
@@ -42,15 +50,20 @@ fn clashing(
     let mut clashing = Vec::new(alloc);
     for group in grouped(alloc, space, number, relation)?.iter() {
         if 1 < group.len() {
-            clashing.push(texts_of(alloc, space, group.as_slice())?)?;
+            clashing.push(inner_texts(alloc, space, group.as_slice())?)?;
         }
     }
     Ok(clashing)
 }
 
-fn texts_of(alloc: Global, space: &Space, group: &[Tuple]) -> Result<Vec<String>, Memory> {
+/// The tuples, as commands take them. It is refused only for want of memory.
+pub(crate) fn inner_texts(
+    alloc: Global,
+    space: &Space,
+    tuples: &[Tuple],
+) -> Result<Vec<String>, Memory> {
     let mut texts = Lines::new(alloc);
-    for tuple in group {
+    for tuple in tuples {
         texts.made(inner_text(alloc, space, tuple));
     }
     Ok(texts.done()?)
@@ -124,9 +137,10 @@ impl Groups {
 
 fn key_of(alloc: Global, relation: &Relation, tuple: &Tuple) -> Result<Tuple, Memory> {
     let mut values = ValueList::new(alloc);
-    for (column, value) in relation.columns.iter().zip(tuple.values.as_slice()) {
-        if column.key {
-            values.push(value.copy(alloc)?)?;
+    for (place, value) in tuple.values.as_slice().iter().enumerate() {
+        match relation.columns.get(place) {
+            Some(column) if column.key => values.push(value.copy(alloc)?)?,
+            _ => {}
         }
     }
     Tuple::new(alloc, 0, values)

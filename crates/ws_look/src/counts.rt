@@ -1,6 +1,5 @@
 //! What `status` counts.
 
-use crate::waiting::waiting_numbers;
 use base_types::{Facts, Memory, Null, Tuple, Value};
 use std::alloc::Global;
 use std::collections::BTreeSet;
@@ -15,34 +14,51 @@ pub(crate) struct Counts {
     pub waiting: Vec<u32>,
 }
 
+impl Counts {
+    /// How many tuples the relation of this number has.
+    pub(crate) fn rows_at(&self, relation: usize) -> usize {
+        self.rows.get(relation).copied().unwrap_or(0)
+    }
+
+    /// Whether a proposed mapping has a violation.
+    pub(crate) fn has_violations(&self) -> bool {
+        for (_, count) in self.proposed.iter() {
+            if 0 < *count {
+                return true;
+            }
+        }
+        false
+    }
+}
+
 /// What is here, counted. It is refused only for want of memory.
 pub(crate) fn counted(alloc: Global, space: &Space) -> Result<Counts, Memory> {
+    Ok(Counts {
+        unknowns: count_unknowns(alloc, space)?,
+        rows: count_rows(alloc, space)?,
+        proposed: count_violations(alloc, space)?,
+        waiting: space.waiting_numbers(alloc)?,
+    })
+}
+
+fn count_rows(alloc: Global, space: &Space) -> Result<Vec<usize>, Memory> {
     let mut rows = Vec::new(alloc);
     for number in 0..space.relations.len() {
         rows.push(space.count_rows(u32::try_from(number).unwrap_or(u32::MAX)))?;
     }
-    let mut proposed = Vec::new(alloc);
-    for mapping in proposed_of(alloc, space)?.iter() {
-        proposed.push((*mapping, space.count_violations(alloc, *mapping)?))?;
-    }
-    Ok(Counts {
-        rows,
-        unknowns: count_unknowns(alloc, space)?,
-        proposed,
-        waiting: waiting_numbers(alloc, space)?,
-    })
+    Ok(rows)
 }
 
-// The numbers of the mappings that are neither in force nor gone.
-fn proposed_of(alloc: Global, space: &Space) -> Result<Vec<u16>, Memory> {
-    let mut proposed = Vec::new(alloc);
+// The proposed mappings, each with the number of its violations.
+fn count_violations(alloc: Global, space: &Space) -> Result<Vec<(u16, usize)>, Memory> {
+    let mut counts = Vec::new(alloc);
     for number in 0..space.rules.len() {
         let number = u16::try_from(number).unwrap_or(u16::MAX);
         if !space.state.in_force().contains(&number) && !space.state.is_gone(number) {
-            proposed.push(number)?;
+            counts.push((number, space.count_violations(alloc, number)?))?;
         }
     }
-    Ok(proposed)
+    Ok(counts)
 }
 
 fn count_unknowns(alloc: Global, space: &Space) -> Result<usize, Memory> {

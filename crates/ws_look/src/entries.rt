@@ -1,12 +1,11 @@
 //! The lines of records as the log tells them.
 
-use crate::statuses::Statuses;
 use base_types::Memory;
 use std::alloc::Global;
 use std::fmt::Write;
 use ws_print::{Text, add_choice, add_line, add_update};
 use ws_question::status_word;
-use ws_space::{Recorded, Space};
+use ws_space::{Recorded, Space, Statuses};
 use ws_state::Status;
 use ws_written::{Line, Relation, SaidLine, Stamp};
 

@@ -6,8 +6,7 @@ use ws_command::Verb;
 use ws_fault::Status;
 use ws_help::help_text;
 use ws_print::Lines;
-use ws_reply::{Context, Reply};
-use ws_seen::{object_of, seen_object, seen_text};
+use ws_reply::{Context, Reply, object_of, seen_object, seen_text};
 
 /// The help of a command, or of all. It is refused only for want of memory.
 pub fn help(alloc: Global, context: &Context<'_>, verb: Option<Verb>) -> Result<Reply, Memory> {

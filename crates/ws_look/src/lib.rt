@@ -14,7 +14,6 @@ mod questions;
 mod rows;
 mod status;
 mod status_object;
-mod statuses;
 mod table_told;
 mod tables;
 mod violating;

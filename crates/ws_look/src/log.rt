@@ -6,8 +6,7 @@ use base_types::Memory;
 use std::alloc::Global;
 use ws_fault::{Refusal, Status};
 use ws_print::Lines;
-use ws_reply::{Context, Reply};
-use ws_seen::{refused, seen_objects, seen_text};
+use ws_reply::{Context, Reply, refused, seen_objects, seen_text};
 use ws_space::{Recorded, Space};
 
 // Of a record with more lines than `MOST` the first `FIRST` are told.

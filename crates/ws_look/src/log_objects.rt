@@ -2,12 +2,11 @@
 
 use crate::entries::{Entry, entries_of};
 use crate::log::{FIRST, MOST};
-use crate::statuses::Statuses;
 use base_types::Memory;
 use std::alloc::Global;
 use ws_json::{Items, Object};
-use ws_seen::{number_of, object_of};
-use ws_space::{Recorded, Space};
+use ws_reply::{number_of, object_of};
+use ws_space::{Recorded, Space, Statuses};
 
 /// The lines of the records, each an object. It is refused only for want of memory.
 pub(crate) fn entry_objects(
@@ -19,15 +18,25 @@ pub(crate) fn entry_objects(
     let mut objects = Vec::new(alloc);
     for recorded in records {
         let entries = entries_of(alloc, space, Some(&statuses), recorded, usize::MAX)?;
-        let told = if entries.len() <= MOST { MOST } else { FIRST };
-        for (place, entry) in entries.iter().enumerate() {
-            objects.push(entry_object(alloc, entry, place < told))?;
-        }
+        add_entries(alloc, &mut objects, entries.as_slice())?;
     }
     if objects.is_empty() {
         objects.push(no_entry(alloc))?;
     }
     Ok(objects)
+}
+
+// Adds the lines of a record; if they are many, the first of them alone have their comments.
+fn add_entries(
+    alloc: Global,
+    objects: &mut Vec<Object>,
+    entries: &[Entry<'_>],
+) -> Result<(), Memory> {
+    let told = if entries.len() <= MOST { MOST } else { FIRST };
+    for (place, entry) in entries.iter().enumerate() {
+        objects.push(entry_object(alloc, entry, place < told))?;
+    }
+    Ok(())
 }
 
 fn no_entry(alloc: Global) -> Object {
@@ -38,15 +47,11 @@ fn no_entry(alloc: Global) -> Object {
 
 fn entry_object(alloc: Global, entry: &Entry<'_>, has_comment: bool) -> Object {
     let mut object = object_of(alloc, "log");
-    add_stamped(&mut object, entry, has_comment);
-    object
-}
-
-fn add_stamped(object: &mut Object, entry: &Entry<'_>, has_comment: bool) {
     object.number("at", i64::from(entry.at));
     object.text("time", entry.stamp.time.as_str());
     object.text("curator", entry.stamp.curator.as_str());
-    add_entry(object, entry, has_comment);
+    add_entry(&mut object, entry, has_comment);
+    object
 }
 
 // The line of an entry, and if it has them its number, state and comment.
@@ -79,37 +84,23 @@ pub(crate) fn record_objects(
 
 fn no_record(alloc: Global, space: &Space) -> Object {
     let mut object = object_of(alloc, "record");
-    add_no_record(alloc, &mut object, space);
-    object
-}
-
-fn add_no_record(alloc: Global, object: &mut Object, space: &Space) {
     object.number("at", i64::from(space.at()));
     object.number("count", 0);
     object.items("lines", Items::new(alloc));
     object.items("tables", Items::new(alloc));
+    object
 }
 
 fn record_object(alloc: Global, space: &Space, recorded: &Recorded) -> Result<Object, Memory> {
-    let mut object = object_of(alloc, "record");
-    add_record(alloc, &mut object, space, recorded)?;
-    Ok(object)
-}
-
-fn add_record(
-    alloc: Global,
-    object: &mut Object,
-    space: &Space,
-    recorded: &Recorded,
-) -> Result<(), Memory> {
     let entries = entries_of(alloc, space, None, recorded, FIRST)?;
+    let mut object = object_of(alloc, "record");
     object.number("at", i64::from(recorded.at));
     object.text("time", recorded.record.stamp.time.as_str());
     object.text("curator", recorded.record.stamp.curator.as_str());
     object.number("count", number_of(recorded.record.lines.len()));
     object.items("lines", line_items(alloc, entries.as_slice()));
     object.items("tables", table_items(alloc, space, recorded));
-    Ok(())
+    Ok(object)
 }
 
 // The first lines.

@@ -7,10 +7,9 @@ use ws_json::{Items, Object};
 use ws_lines::Given;
 use ws_print::{Lines, Text, add_choice, add_count};
 use ws_question::{fact_text, reason_words, status_of, status_word};
-use ws_reply::{Context, Reply};
-use ws_seen::{object_of, seen_object, seen_text, text_items};
+use ws_reply::{Context, Reply, object_of, seen_object, seen_text, text_items};
 use ws_space::Space;
-use ws_state::{Standing, Status};
+use ws_state::{Standing, Status, Waiting};
 use ws_written::{Choice, Line};
 
 // An update: its answers, how it stands, in words, and what it wrote.
@@ -89,18 +88,22 @@ fn waiting_words(alloc: Global, space: &mut Space, number: u32) -> Result<String
     reason_words(alloc, space, reason.as_ref())
 }
 
-fn is_held(space: &Space, held: usize, number: u32) -> bool {
-    match space.state.held().get(held) {
-        Some(held) => held.update.number == number,
-        None => false,
+fn standing_of(space: &Space, number: u32) -> Option<&Standing> {
+    for standing in space.state.order().as_slice() {
+        if space.number_at(standing.held) == Some(number) {
+            return Some(standing);
+        }
     }
+    None
 }
 
-fn standing_of(space: &Space, number: u32) -> Option<&Standing> {
-    let order = space.state.order().as_slice();
-    order
-        .iter()
-        .find(|standing| is_held(space, standing.held, number))
+fn waiting_of(space: &Space, number: u32) -> Option<&Waiting> {
+    for waiting in space.state.waiting().as_slice() {
+        if space.number_at(waiting.held) == Some(number) {
+            return Some(waiting);
+        }
+    }
+    None
 }
 
 // `done in K steps, with L unknowns`.
@@ -140,27 +143,19 @@ fn answers_of(alloc: Global, space: &Space, number: u32) -> Result<Vec<String>, 
     if let Some(standing) = standing_of(space, number) {
         return choices(alloc, space, standing.answers.as_slice());
     }
-    let waiting = space.state.waiting().as_slice();
-    if let Some(waiting) = waiting
-        .iter()
-        .find(|waiting| is_held(space, waiting.held, number))
-    {
+    if let Some(waiting) = waiting_of(space, number) {
         return choices(alloc, space, waiting.answers.as_slice());
     }
     given(alloc, space, number)
 }
 
 fn choices(alloc: Global, space: &Space, answers: &[Given]) -> Result<Vec<String>, Memory> {
-    let mut choices = Vec::new(alloc);
+    let mut choices = Lines::new(alloc);
     for given in answers {
-        choices.push(said_choice(alloc, space, given)?)?;
+        let answer = space.said_answer(alloc, given)?;
+        choices.made(choice_text(alloc, space, &answer.choice));
     }
-    Ok(choices)
-}
-
-fn said_choice(alloc: Global, space: &Space, given: &Given) -> Result<String, Memory> {
-    let answer = space.said_answer(alloc, given)?;
-    choice_text(alloc, space, &answer.choice)
+    Ok(choices.done()?)
 }
 
 // What the log has of answers to it, those that were taken back apart.
@@ -211,11 +206,6 @@ fn first_line(alloc: Global, space: &Space, number: u32) -> Result<String, Memor
 
 fn object(alloc: Global, space: &Space, told: &Told) -> Object {
     let mut object = object_of(alloc, "update");
-    add_update(alloc, &mut object, space, told);
-    object
-}
-
-fn add_update(alloc: Global, object: &mut Object, space: &Space, told: &Told) {
     object.number("number", i64::from(told.number));
     object.text("curator", space.curator_of(told.number));
     object.text("time", space.time_of(told.number));
@@ -223,6 +213,7 @@ fn add_update(alloc: Global, object: &mut Object, space: &Space, told: &Told) {
     object.text("state", status_word(told.status));
     object.items("answers", text_items(alloc, told.answers.as_slice()));
     object.items("writes", write_items(alloc, told.writes.as_slice()));
+    object
 }
 
 fn write_items(alloc: Global, writes: &[Wrote]) -> Items {

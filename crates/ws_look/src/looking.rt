@@ -11,8 +11,7 @@ use ws_ask::ask;
 use ws_command::{Look, Why};
 use ws_fault::{Refusal, Status};
 use ws_question::Shown;
-use ws_reply::{Context, Reply};
-use ws_seen::seen_text;
+use ws_reply::{Context, Reply, seen_text};
 use ws_space::Space;
 use ws_why::{why_fact, why_unknown};
 

@@ -6,7 +6,7 @@ use std::alloc::Global;
 use ws_json::Object;
 use ws_print::Lines;
 use ws_question::{AskedNow, question_lines, question_object};
-use ws_seen::object_of;
+use ws_reply::object_of;
 use ws_space::Space;
 
 /// The updates with their questions. It is refused only for want of memory.

@@ -1,14 +1,12 @@
 //! `questions`: what waits, and for which answer.
 
 use crate::question_told::{lines, objects};
-use crate::waiting::waiting_numbers;
 use base_types::Memory;
 use std::alloc::Global;
 use ws_fault::{Refusal, Status as Code};
 use ws_question::{AskedNow, Shown, asked_now, reason_words, status_of, status_word};
-use ws_reply::{Context, Reply};
+use ws_reply::{Context, Reply, refused, seen_objects, seen_text};
 use ws_run::{Question, Reason};
-use ws_seen::{refused, seen_objects, seen_text};
 use ws_space::Space;
 use ws_state::Status;
 
@@ -137,15 +135,31 @@ fn wanted_numbers(
 ) -> Result<Vec<u32>, Refusal> {
     let mut numbers = match wanted.number {
         Some(number) => one_number(alloc, space, number)?,
-        None => waiting_numbers(alloc, space)?,
+        None => space.waiting_numbers(alloc)?,
     };
     if wanted.mine {
-        numbers.retain(|number| space.curator_of(*number) == context.curator);
+        numbers = numbers_of(alloc, space, context.curator, numbers.as_slice())?;
     }
     if let Some(number) = numbers.first() {
         refuse_others(alloc, space, *number)?;
     }
     Ok(numbers)
+}
+
+// Those of the updates that this curator said.
+fn numbers_of(
+    alloc: Global,
+    space: &Space,
+    curator: &str,
+    numbers: &[u32],
+) -> Result<Vec<u32>, Memory> {
+    let mut mine = Vec::new(alloc);
+    for number in numbers {
+        if space.curator_of(*number) == curator {
+            mine.push(*number)?;
+        }
+    }
+    Ok(mine)
 }
 
 fn one_number(alloc: Global, space: &Space, number: u32) -> Result<Vec<u32>, Refusal> {

@@ -4,7 +4,7 @@ use base_types::{Memory, Tuple, Value};
 use std::alloc::Global;
 use ws_command::Paging;
 use ws_print::{Text, add_cell};
-use ws_space::Space;
+use ws_space::{Space, has_unknown};
 use ws_written::{Atom, Term, Value as Said};
 
 /// The tuples, within and in order, that match the atom. It is refused only for want of memory.
@@ -32,12 +32,19 @@ fn constant(alloc: Global, space: &Space, term: &Term) -> Result<Option<Value>, 
 
 // Whether each variable stands for one value alone.
 fn agrees(atom: &Atom, tuple: &Tuple) -> bool {
-    let values = tuple.values.as_slice();
-    for (place, (term, value)) in atom.terms.iter().zip(values).enumerate() {
-        for (other, same) in atom.terms.iter().zip(values).skip(place) {
-            if is_one_variable(term, other) && value != same {
-                return false;
-            }
+    for (place, term) in atom.terms.iter().enumerate() {
+        if !agrees_with(atom, tuple, term, tuple.values.get(place)) {
+            return false;
+        }
+    }
+    true
+}
+
+// Whether each place in which the term stands as a variable has this value.
+fn agrees_with(atom: &Atom, tuple: &Tuple, term: &Term, value: Option<&Value>) -> bool {
+    for (place, other) in atom.terms.iter().enumerate() {
+        if is_one_variable(term, other) && tuple.values.get(place) != value {
+            return false;
         }
     }
     true
@@ -72,15 +79,6 @@ pub(crate) fn alike(
         Some(like) => having(alloc, space, tuples, like.as_str()),
         None => Ok(tuples),
     }
-}
-
-/// Whether an unknown stands in the tuple.
-pub(crate) fn has_unknown(tuple: &Tuple) -> bool {
-    tuple
-        .values
-        .as_slice()
-        .iter()
-        .any(|value| matches!(value, Value::Null(_)))
 }
 
 fn having(

@@ -6,9 +6,8 @@ use base_types::Memory;
 use std::alloc::{AllocError, Global};
 use std::fmt::Write;
 use ws_fault::Status;
-use ws_print::{Lines, Text, add_count, add_form, add_rule};
-use ws_reply::{Context, Reply};
-use ws_seen::{seen_object, seen_text};
+use ws_print::{Lines, Text, add_count, add_form};
+use ws_reply::{Context, Reply, seen_object, seen_text};
 use ws_space::Space;
 use ws_written::Relation;
 
@@ -42,7 +41,7 @@ fn lines(
 ) -> Result<Vec<String>, Memory> {
     let mut lines = Lines::new(alloc);
     add_relations(alloc, &mut lines, space, context, counts);
-    add_mappings(alloc, &mut lines, space, counts)?;
+    add_mappings(alloc, &mut lines, space, counts);
     add_waiting(alloc, &mut lines, space, counts);
     lines.made(last_line(alloc, space));
     add_next(alloc, &mut lines, counts);
@@ -65,8 +64,8 @@ fn add_relations(
     counts: &Counts,
 ) {
     lines.made(first_line(alloc, space, context, counts));
-    for (relation, count) in space.relations.iter().zip(counts.rows.iter()) {
-        lines.made(relation_line(alloc, relation, *count));
+    for (place, relation) in space.relations.iter().enumerate() {
+        lines.made(relation_line(alloc, relation, counts.rows_at(place)));
     }
 }
 
@@ -102,22 +101,15 @@ fn relation_line(alloc: Global, relation: &Relation, count: usize) -> Result<Str
     line.done()
 }
 
-fn add_mappings(
-    alloc: Global,
-    lines: &mut Lines,
-    space: &Space,
-    counts: &Counts,
-) -> Result<(), Memory> {
+fn add_mappings(alloc: Global, lines: &mut Lines, space: &Space, counts: &Counts) {
     for mapping in space.state.in_force() {
         let mut line = Text::from_str(alloc, "in force: ");
-        add_mapping(&mut line, space, *mapping);
-        let line = line.done()?;
-        lines.push(line);
+        line.made(space.rule_text(alloc, *mapping));
+        lines.made(line.done());
     }
     for (mapping, count) in counts.proposed.iter() {
         lines.made(proposed_line(alloc, space, *mapping, *count));
     }
-    Ok(())
 }
 
 fn proposed_line(
@@ -127,7 +119,7 @@ fn proposed_line(
     count: usize,
 ) -> Result<String, Memory> {
     let mut line = Text::from_str(alloc, "proposed: ");
-    add_mapping(&mut line, space, mapping);
+    line.made(space.rule_text(alloc, mapping));
     if count == 0 {
         let name = space.mapping_name(mapping);
         write!(line, "  (no violations: adopt {name})");
@@ -137,12 +129,6 @@ fn proposed_line(
     add_count(&mut line, count, "violation");
     line.push(')');
     Ok(line.done()?)
-}
-
-fn add_mapping(out: &mut Text, space: &Space, mapping: u16) {
-    if let Some(rule) = space.rule(mapping) {
-        add_rule(out, space.relations.as_slice(), rule);
-    }
 }
 
 fn add_waiting(alloc: Global, lines: &mut Lines, space: &Space, counts: &Counts) {
@@ -185,7 +171,7 @@ fn last_line(alloc: Global, space: &Space) -> Result<String, Memory> {
 fn add_next(alloc: Global, lines: &mut Lines, counts: &Counts) {
     if !counts.waiting.is_empty() {
         lines.push_str("next: questions");
-    } else if counts.proposed.iter().any(|(_, count)| 0 < *count) {
+    } else if counts.has_violations() {
         lines.push_str("next: violations");
     }
 }

@@ -6,8 +6,7 @@ use base_types::Memory;
 use std::alloc::Global;
 use ws_json::{Items, Object};
 use ws_print::{Text, add_stamp};
-use ws_reply::Context;
-use ws_seen::{column_items, number_of, object_of};
+use ws_reply::{Context, column_items, number_of, object_of};
 use ws_space::Space;
 use ws_written::Relation;
 
@@ -19,17 +18,6 @@ pub(crate) fn status_object(
     counts: &Counts,
 ) -> Object {
     let mut object = object_of(alloc, "status");
-    add_members(alloc, &mut object, space, context, counts);
-    object
-}
-
-fn add_members(
-    alloc: Global,
-    object: &mut Object,
-    space: &Space,
-    context: &Context<'_>,
-    counts: &Counts,
-) {
     object.text("file", last_part(context.file));
     object.number("at", i64::from(space.at()));
     object.number("last", i64::from(space.state.last()));
@@ -38,42 +26,34 @@ fn add_members(
     object.number("folded", i64::from(space.folded));
     object.number("stand", number_of(space.state.order().len()));
     object.number("unknowns", number_of(counts.unknowns));
-    add_lists(alloc, object, space, counts);
+    object.items("relations", relation_items(alloc, space, counts));
+    object.items("in_force", in_force_items(alloc, space));
+    object.object("proposed", proposed_object(alloc, space, counts));
+    object.items("waits", waiting_items(alloc, space, counts));
+    object
 }
 
 fn created_text(alloc: Global, space: &Space) -> Result<String, Memory> {
     let mut created = Text::new(alloc);
     add_stamp(&mut created, &space.created);
-    let created = created.done()?;
-    Ok(created)
-}
-
-fn add_lists(alloc: Global, object: &mut Object, space: &Space, counts: &Counts) {
-    object.items("relations", relation_items(alloc, space, counts));
-    object.items("in_force", in_force_items(alloc, space));
-    object.object("proposed", proposed_object(alloc, space, counts));
-    object.items("waits", waiting_items(alloc, space, counts));
+    Ok(created.done()?)
 }
 
 fn relation_items(alloc: Global, space: &Space, counts: &Counts) -> Items {
     let mut items = Items::new(alloc);
-    for (relation, count) in space.relations.iter().zip(counts.rows.iter()) {
-        items.object(relation_object(alloc, relation, *count));
+    for (place, relation) in space.relations.iter().enumerate() {
+        items.object(relation_object(alloc, relation, counts.rows_at(place)));
     }
     items
 }
 
 fn relation_object(alloc: Global, relation: &Relation, count: usize) -> Object {
     let mut object = Object::new(alloc);
-    add_relation(alloc, &mut object, relation, count);
-    object
-}
-
-fn add_relation(alloc: Global, object: &mut Object, relation: &Relation, count: usize) {
     object.text("name", relation.name.as_str());
     object.items("columns", column_items(alloc, relation));
     object.items("key", key_items(alloc, relation));
     object.number("count", number_of(count));
+    object
 }
 
 // The numbers of the columns of the key, counted from 1.
@@ -113,12 +93,8 @@ fn waiting_items(alloc: Global, space: &Space, counts: &Counts) -> Items {
 
 fn waiting_object(alloc: Global, space: &Space, waiting: u32) -> Object {
     let mut object = Object::new(alloc);
-    add_waiting(alloc, &mut object, space, waiting);
-    object
-}
-
-fn add_waiting(alloc: Global, object: &mut Object, space: &Space, waiting: u32) {
     object.number("number", i64::from(waiting));
     object.text("curator", space.curator_of(waiting));
     object.made("line", space.update_text(alloc, waiting));
+    object
 }

@@ -6,7 +6,7 @@ use std::alloc::{AllocError, Global};
 use ws_command::Paging;
 use ws_json::{Items, Object};
 use ws_print::{Lines, Table, Text, add_count, add_ranges};
-use ws_seen::{column_items, number_items, number_of, object_of, row_items};
+use ws_reply::{column_items, number_items, number_of, object_of, row_items};
 use ws_space::Space;
 use ws_written::Column;
 
@@ -108,7 +108,7 @@ pub(crate) fn objects(
 ) -> Result<Vec<Object>, Memory> {
     let mut objects = Vec::new(alloc);
     for told in tables {
-        objects.push(object(alloc, told, paging.from)?)?;
+        objects.push(object(alloc, told, paging.from))?;
     }
     if objects.is_empty() {
         objects.push(no_table(alloc))?;
@@ -122,25 +122,15 @@ fn no_table(alloc: Global) -> Object {
     object
 }
 
-fn object(alloc: Global, told: &Told<'_>, from: Option<u32>) -> Result<Object, Memory> {
+fn object(alloc: Global, told: &Told<'_>, from: Option<u32>) -> Object {
     let mut object = object_of(alloc, "table");
-    add_told(alloc, &mut object, told, from)?;
-    Ok(object)
-}
-
-fn add_told(
-    alloc: Global,
-    object: &mut Object,
-    told: &Told<'_>,
-    from: Option<u32>,
-) -> Result<(), Memory> {
     object.text("relation", told.relation.name.as_str());
     object.items("columns", column_items(alloc, told.relation));
     object.number("count", number_of(told.count));
     object.items("waiting", number_items(alloc, told.waiting.as_slice()));
-    object.items("rows", row_items(alloc, told.rows.as_slice())?);
+    object.items("rows", row_items(alloc, told.rows.as_slice()));
     if let Some(from) = from {
         object.number("from", i64::from(from));
     }
-    Ok(())
+    object
 }

@@ -7,8 +7,7 @@ use base_types::{Memory, Tuple};
 use std::alloc::Global;
 use ws_command::{Paging, Shown};
 use ws_fault::Status;
-use ws_reply::{Context, Reply};
-use ws_seen::{seen_objects, seen_text};
+use ws_reply::{Context, Reply, seen_objects, seen_text};
 use ws_space::Space;
 use ws_written::{Fact, Relation};
 

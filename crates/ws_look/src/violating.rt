@@ -1,15 +1,13 @@
 //! `violations`: what is missing for mappings, and which keys clash.
 
-use crate::clashes::{Clashes, clashes_of};
+use crate::clashes::{Clashes, clashes_of, inner_texts};
 use crate::violation_lines::lines;
 use crate::violation_objects::objects;
 use base_types::Memory;
 use std::alloc::Global;
 use ws_fault::Status;
 use ws_print::{Lines, Text, add_new_fact};
-use ws_question::inner_text;
-use ws_reply::{Context, Reply};
-use ws_seen::{seen_objects, seen_text};
+use ws_reply::{Context, Reply, seen_objects, seen_text};
 use ws_space::{Space, Violation};
 use ws_written::NewFact;
 
@@ -147,19 +145,11 @@ fn lack_of(
     mapping: u16,
     violation: &Violation,
 ) -> Result<Lack, Memory> {
-    let since = since_texts(alloc, space, violation)?;
+    let since = inner_texts(alloc, space, violation.image.as_slice())?;
     Ok(Lack {
         since,
         lacks: lack_texts(alloc, space, mapping, violation)?,
     })
-}
-
-fn since_texts(alloc: Global, space: &Space, violation: &Violation) -> Result<Vec<String>, Memory> {
-    let mut texts = Lines::new(alloc);
-    for tuple in violation.image.as_slice() {
-        texts.made(inner_text(alloc, space, tuple));
-    }
-    Ok(texts.done()?)
 }
 
 fn lack_texts(
@@ -183,8 +173,17 @@ fn new_fact_text(alloc: Global, space: &Space, fact: &NewFact) -> Result<String,
 }
 
 fn status_of(told: &[Told], clashes: &[Clashes]) -> Status {
-    if clashes.is_empty() && told.iter().all(|one| one.count == 0) {
+    if clashes.is_empty() && !one_is_violated(told) {
         return Status::Done;
     }
     Status::Violated
+}
+
+fn one_is_violated(told: &[Told]) -> bool {
+    for one in told {
+        if 0 < one.count {
+            return true;
+        }
+    }
+    false
 }

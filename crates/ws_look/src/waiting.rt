@@ -2,20 +2,10 @@
 
 use base_types::Memory;
 use std::alloc::Global;
-use ws_lines::Deed;
-use ws_space::Space;
-
-/// Their numbers, rising. It is refused only for want of memory.
-pub(crate) fn waiting_numbers(alloc: Global, space: &Space) -> Result<Vec<u32>, Memory> {
-    waiting_that(alloc, space, None)
-}
+use ws_space::{Space, speaks_of};
 
 /// The numbers, rising, of those that have tuples of the relation. It is refused only for want of memory.
 pub(crate) fn waiting_for(alloc: Global, space: &Space, relation: u32) -> Result<Vec<u32>, Memory> {
-    waiting_that(alloc, space, Some(relation))
-}
-
-fn waiting_that(alloc: Global, space: &Space, relation: Option<u32>) -> Result<Vec<u32>, Memory> {
     let mut numbers = Vec::new(alloc);
     for waiting in space.state.waiting().as_slice() {
         if let Some(held) = space.state.held().get(waiting.held) {
@@ -24,27 +14,6 @@ fn waiting_that(alloc: Global, space: &Space, relation: Option<u32>) -> Result<V
             }
         }
     }
-    numbers.sort()?;
+    numbers.sort_unstable();
     Ok(numbers)
-}
-
-// Whether it has tuples of the relation, if one is given.
-fn speaks_of(deed: &Deed, relation: Option<u32>) -> bool {
-    let Some(relation) = relation else {
-        return true;
-    };
-    match deed {
-        Deed::Insert(tuples) => tuples
-            .as_slice()
-            .iter()
-            .any(|tuple| u32::from(tuple.relation) == relation),
-        Deed::Delete(tuples) => tuples
-            .as_slice()
-            .iter()
-            .any(|tuple| u32::from(tuple.relation) == relation),
-        Deed::Swap(old, new) => {
-            u32::from(old.relation) == relation || u32::from(new.relation) == relation
-        }
-        _ => false,
-    }
 }

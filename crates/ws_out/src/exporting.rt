@@ -18,14 +18,19 @@ pub fn export_word(export: &Export) -> &'static str {
     if export.json { "rows" } else { "csv" }
 }
 
-/// The lines of the export. More than one form, and comma-separated values of more than one relation, are refused.
+/// The lines of the export; a database is made of those of SQL. More than one form, and comma-separated values of more than one relation, are refused.
 pub fn export(alloc: Global, space: &Space, export: &Export) -> Result<Vec<String>, Refusal> {
     if is_torn(export) {
         let words = "one of --csv, --sql and --json";
-        return refused(alloc, Status::Unread, words, None);
+        let hint = if export.sqlite.is_some() {
+            Some("or --sqlite FILE alone")
+        } else {
+            None
+        };
+        return refused(alloc, Status::Unread, words, hint);
     }
     let relations = relations_of(alloc, space, export)?;
-    if export.sql {
+    if export.sql || export.sqlite.is_some() {
         return sql_lines(alloc, space, relations.as_slice());
     }
     if export.json {
@@ -42,8 +47,11 @@ pub fn export(alloc: Global, space: &Space, export: &Export) -> Result<Vec<Strin
     }
 }
 
-// Whether more than one form is named.
+// Whether more than one form is named, or a database is to go into two files.
 fn is_torn(export: &Export) -> bool {
+    if export.sqlite.is_some() {
+        return export.csv || export.sql || export.json || export.to.is_some();
+    }
     (export.csv && (export.sql || export.json)) || (export.sql && export.json)
 }
 

@@ -3,11 +3,12 @@
 use crate::pages::Document;
 use base_types::Memory;
 use std::alloc::{AllocError, Global};
-use std::collections::BTreeMap;
 use std::fmt::Write;
 use ws_draw::add_html;
 use ws_print::{Text, add_choice, add_line, add_update};
-use ws_space::{Recorded, Space};
+use ws_question::status_word;
+use ws_space::{Recorded, Space, Statuses};
+use ws_state::Status;
 use ws_written::{Line, Relation};
 
 const HEADER: &str =
@@ -15,60 +16,29 @@ const HEADER: &str =
      <th scope=\"col\">When</th><th scope=\"col\">Who</th><th scope=\"col\">Update</th>\
      <th scope=\"col\">Command</th><th scope=\"col\">State</th></tr>";
 
-// How the update of each number stands.
-type States = BTreeMap<u32, &'static str>;
-
 /// Adds the log, which ends the page. It is refused only for want of memory.
 pub(crate) fn add_log(document: &mut Document, space: &Space) -> Result<(), Memory> {
-    document.say(HEADER)?;
-    let states = states_of(document.alloc, space)?;
+    document.say(HEADER);
+    let statuses = Statuses::of(document.alloc, &space.state)?;
     let relations = space.relations.as_slice();
     for recorded in space.records.iter() {
-        add_record(document, relations, &states, recorded)?;
+        add_record(document, relations, &statuses, recorded)?;
     }
-    document.say("</table></div></body></html>")?;
-    Ok(())
-}
-
-fn states_of(alloc: Global, space: &Space) -> Result<States, AllocError> {
-    let mut states = BTreeMap::new(alloc);
-    for held in space.state.held() {
-        let word = if held.is_undone { "undone" } else { "given up" };
-        states.insert(held.update.number, word)?;
-    }
-    for standing in space.state.order().as_slice() {
-        put_state(space, &mut states, standing.held, "done")?;
-    }
-    for waiting in space.state.waiting().as_slice() {
-        put_state(space, &mut states, waiting.held, "waits")?;
-    }
-    Ok(states)
-}
-
-fn put_state(
-    space: &Space,
-    states: &mut States,
-    held: usize,
-    word: &'static str,
-) -> Result<(), AllocError> {
-    if let Some(held) = space.state.held().get(held) {
-        states.insert(held.update.number, word)?;
-    }
+    document.say("</table></div></body></html>");
     Ok(())
 }
 
 fn add_record(
     document: &mut Document,
     relations: &[Relation],
-    states: &States,
+    statuses: &Statuses,
     recorded: &Recorded,
 ) -> Result<(), AllocError> {
     let begin = beginning(document, recorded)?;
     for said in recorded.record.lines.iter() {
         let mut line = Text::from_str(document.alloc, begin.as_str());
-        add_cells(document.alloc, &mut line, relations, states, &said.line)?;
-        let line = line.done()?;
-        document.add(line)?;
+        add_cells(document.alloc, &mut line, relations, statuses, &said.line)?;
+        document.made(line.done());
     }
     Ok(())
 }
@@ -87,7 +57,7 @@ fn add_cells(
     alloc: Global,
     out: &mut Text,
     relations: &[Relation],
-    states: &States,
+    statuses: &Statuses,
     line: &Line,
 ) -> Result<(), AllocError> {
     out.push_str("<td class=\"n\">");
@@ -95,12 +65,20 @@ fn add_cells(
     if let Line::Update(numbered) = line {
         let number = numbered.number;
         write!(out, "{number}");
-        state = states.get(&number).copied().unwrap_or("");
+        state = state_word(statuses.status(number));
     }
     out.push_str("</td><td><code>");
     add_html(out, line_text(alloc, relations, line)?.as_str());
     write!(out, "</code></td><td>{state}</td></tr>");
     Ok(())
+}
+
+fn state_word(status: Option<Status>) -> &'static str {
+    match status {
+        Some(Status::Stands) => "done",
+        Some(status) => status_word(status),
+        None => "",
+    }
 }
 
 // A line without the number of its update, or the question that it answers.

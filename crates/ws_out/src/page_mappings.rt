@@ -5,22 +5,21 @@ use crate::pages::Document;
 use base_types::Memory;
 use std::alloc::{AllocError, Global};
 use ws_draw::svg_of;
-use ws_print::{Text, add_rule};
 use ws_space::Space;
 
 /// Adds the mappings. It is refused only for want of memory.
 pub(crate) fn add_mappings(document: &mut Document, space: &Space) -> Result<(), Memory> {
-    document.say("<h2 id=\"mappings\">Mappings</h2>")?;
+    document.say("<h2 id=\"mappings\">Mappings</h2>");
     let mappings = mappings_of(document.alloc, space)?;
     if mappings.is_empty() {
-        document.say("<p>None.</p>")?;
+        document.say("<p>None.</p>");
         return Ok(());
     }
-    document.add(picture(document.alloc, space)?)?;
-    for mapping in mappings {
-        add_mapping(document, space, mapping)?;
+    document.made(picture(document.alloc, space));
+    for mapping in mappings.iter() {
+        add_mapping(document, space, *mapping)?;
     }
-    document.say("</ul>")?;
+    document.say("</ul>");
     Ok(())
 }
 
@@ -32,18 +31,10 @@ fn picture(alloc: Global, space: &Space) -> Result<String, AllocError> {
 
 fn add_mapping(document: &mut Document, space: &Space, mapping: u16) -> Result<(), Memory> {
     let alloc = document.alloc;
-    let code = document.code(rule_text(alloc, space, mapping)?.as_str())?;
+    let code = document.code(space.rule_text(alloc, mapping)?.as_str())?;
     let state = state_text(alloc, space, mapping)?;
-    document.add(format!(in alloc; "<li>{code} {state}</li>")?)?;
+    document.made(format!(in alloc; "<li>{code} {state}</li>"));
     Ok(())
-}
-
-fn rule_text(alloc: Global, space: &Space, mapping: u16) -> Result<String, AllocError> {
-    let mut text = Text::new(alloc);
-    if let Some(rule) = space.rule(mapping) {
-        add_rule(&mut text, space.relations.as_slice(), rule);
-    }
-    text.done()
 }
 
 fn state_text(alloc: Global, space: &Space, mapping: u16) -> Result<String, Memory> {

@@ -2,8 +2,7 @@
 
 use crate::pages::Document;
 use base_types::{List, Memory, Tuple};
-use std::alloc::{AllocError, Global};
-use ws_print::{Text, add_rule};
+use ws_print::Text;
 use ws_question::{fact_text, reason_words};
 use ws_run::{Question, Reason};
 use ws_space::Space;
@@ -13,14 +12,14 @@ const HEADER: &str =
 
 /// Adds each update that waits, and its question. It is refused only for want of memory.
 pub(crate) fn add_questions(document: &mut Document, space: &mut Space) -> Result<(), Memory> {
-    document.say("<h2 id=\"questions\">Questions</h2>")?;
-    let numbers = waiting_numbers(document.alloc, space)?;
+    document.say("<h2 id=\"questions\">Questions</h2>");
+    let numbers = space.waiting_numbers(document.alloc)?;
     for number in numbers.iter() {
         add_heading(document, space, *number)?;
         add_stop(document, space, *number)?;
     }
     if numbers.is_empty() {
-        document.say("<p>No questions.</p>")?;
+        document.say("<p>No questions.</p>");
     }
     Ok(())
 }
@@ -34,23 +33,11 @@ fn add_stop(document: &mut Document, space: &mut Space, number: u32) -> Result<(
     }
 }
 
-// The numbers of the updates that wait, rising.
-fn waiting_numbers(alloc: Global, space: &Space) -> Result<Vec<u32>, AllocError> {
-    let mut numbers = Vec::new(alloc);
-    for waiting in space.state.waiting().as_slice() {
-        if let Some(held) = space.state.held().get(waiting.held) {
-            numbers.push(held.update.number)?;
-        }
-    }
-    numbers.sort_unstable();
-    Ok(numbers)
-}
-
 fn add_heading(document: &mut Document, space: &Space, number: u32) -> Result<(), Memory> {
     let alloc = document.alloc;
     let curator = document.shown(space.curator_of(number))?;
     let update = document.code(space.update_text(alloc, number)?.as_str())?;
-    document.add(format!(in alloc; "<h3>{number} {curator}: {update}</h3>")?)?;
+    document.made(format!(in alloc; "<h3>{number} {curator}: {update}</h3>"));
     Ok(())
 }
 
@@ -62,7 +49,7 @@ fn add_reason(
     let alloc = document.alloc;
     let words = reason_words(alloc, space, reason.as_ref())?;
     let shown = document.shown(words.as_str())?;
-    document.add(format!(in alloc; "<p>{shown}</p>")?)?;
+    document.made(format!(in alloc; "<p>{shown}</p>"));
     Ok(())
 }
 
@@ -73,26 +60,28 @@ fn add_question(
     question: &Question,
 ) -> Result<(), Memory> {
     add_asked(document, space, question)?;
-    document.say(HEADER)?;
+    document.say(HEADER);
     for (place, candidate) in question.candidates.as_slice().iter().enumerate() {
         add_candidate(document, space, number, place, candidate)?;
     }
     if question.is_positive {
-        add_command(document, "none of them", number, "new", space.at())?;
+        add_command(document, "none of them", number, "new", space.at());
     }
-    document.say("</table>")?;
+    document.say("</table>");
     Ok(())
 }
 
 // What is asked, and since when.
 fn add_asked(document: &mut Document, space: &Space, question: &Question) -> Result<(), Memory> {
-    let rule = document.code(rule_text(document.alloc, space, question)?.as_str())?;
+    let mapping = space.source_mapping(question.asked.source);
+    let rule = space.rule_text(document.alloc, mapping.unwrap_or(u16::MAX))?;
+    let rule = document.code(rule.as_str())?;
     if question.is_positive {
         return add_wanted(document, space, question, rule.as_str());
     }
     let alloc = document.alloc;
     let words = "no longer holds for these. Which of them go?";
-    document.add(format!(in alloc; "<p>{rule} {words}</p>")?)?;
+    document.made(format!(in alloc; "<p>{rule} {words}</p>"));
     Ok(())
 }
 
@@ -104,19 +93,10 @@ fn add_wanted(
 ) -> Result<(), Memory> {
     let alloc = document.alloc;
     let wanted = codes(document, space, &question.asked.tuples)?;
-    document.add(format!(in alloc; "<p>{rule} wants {wanted}. Is it one of these?</p>")?)?;
+    document.made(format!(in alloc; "<p>{rule} wants {wanted}. Is it one of these?</p>"));
     let since = codes(document, space, &question.since)?;
-    document.add(format!(in alloc; "<p>Since {since}.</p>")?)?;
+    document.made(format!(in alloc; "<p>Since {since}.</p>"));
     Ok(())
-}
-
-fn rule_text(alloc: Global, space: &Space, question: &Question) -> Result<String, AllocError> {
-    let mut text = Text::new(alloc);
-    let mapping = space.source_mapping(question.asked.source);
-    if let Some(rule) = mapping.and_then(|mapping| space.rule(mapping)) {
-        add_rule(&mut text, space.relations.as_slice(), rule);
-    }
-    text.done()
 }
 
 // The tuples, as code between commas.
@@ -142,19 +122,17 @@ fn add_candidate(
     let code = document.code(text.as_str())?;
     let chosen = place.saturating_add(1);
     let word = format!(in alloc; "{chosen}")?;
-    add_command(document, code.as_str(), number, word.as_str(), space.at())?;
+    add_command(document, code.as_str(), number, word.as_str(), space.at());
     Ok(())
 }
 
 // A row with the command that answers so.
-fn add_command(
-    document: &mut Document,
-    shown: &str,
-    number: u32,
-    word: &str,
-    at: u32,
-) -> Result<(), AllocError> {
-    let alloc = document.alloc;
-    let command = format!(in alloc; "<code>answer {number} {word} --at {at}</code>")?;
-    document.add(format!(in alloc; "<tr><td>{shown}</td><td>{command}</td></tr>")?)
+fn add_command(document: &mut Document, shown: &str, number: u32, word: &str, at: u32) {
+    let mut line = Text::new(document.alloc);
+    write!(line, "<tr><td>{shown}</td><td>");
+    write!(
+        line,
+        "<code>answer {number} {word} --at {at}</code></td></tr>"
+    );
+    document.made(line.done());
 }

@@ -11,24 +11,21 @@ use ws_written::{Column, Fact, Relation, Value};
 
 /// Adds each table. It is refused only for want of memory.
 pub(crate) fn add_tables(document: &mut Document, space: &Space) -> Result<(), Memory> {
-    document.say("<h2 id=\"tables\">Tables</h2>")?;
+    document.say("<h2 id=\"tables\">Tables</h2>");
     for (place, relation) in space.relations.iter().enumerate() {
         let facts = facts_of(document.alloc, space, relation_at(place))?;
-        add_table(document, relation, facts.as_slice())?;
+        add_table(document, relation, facts.as_slice());
     }
     Ok(())
 }
 
-fn add_table(
-    document: &mut Document,
-    relation: &Relation,
-    facts: &[Fact],
-) -> Result<(), AllocError> {
-    document.add(head_line(document.alloc, relation, facts.len())?)?;
+fn add_table(document: &mut Document, relation: &Relation, facts: &[Fact]) {
+    let alloc = document.alloc;
+    document.made(head_line(alloc, relation, facts.len()));
     for fact in facts {
-        add_row(document, fact)?;
+        document.made(row_line(alloc, fact));
     }
-    document.say("</table></div>")
+    document.say("</table></div>");
 }
 
 // The beginning of a table, its columns in it.
@@ -51,14 +48,13 @@ fn add_column(line: &mut Text, column: &Column) {
     line.push_str(if column.key { "*</th>" } else { "</th>" })
 }
 
-fn add_row(document: &mut Document, fact: &Fact) -> Result<(), AllocError> {
-    let mut line = Text::from_str(document.alloc, "<tr>");
+fn row_line(alloc: Global, fact: &Fact) -> Result<String, AllocError> {
+    let mut line = Text::from_str(alloc, "<tr>");
     for value in fact.values.iter() {
         add_cell(&mut line, value);
     }
     line.push_str("</tr>");
-    let line = line.done()?;
-    document.add(line)
+    line.done()
 }
 
 fn add_cell(line: &mut Text, value: &Value) {

@@ -5,10 +5,9 @@ use crate::texts::relation_at;
 use base_types::{Memory, Tuple, Value};
 use std::alloc::{AllocError, Global};
 use std::collections::BTreeMap;
-use std::fmt::Write;
 use ws_print::{Text, add_unknown};
 use ws_question::inner_text;
-use ws_space::{Space, unknown_of};
+use ws_space::{Space, has_unknown, unknown_of};
 use ws_written::Unknown;
 
 // How many of the tuples of an unknown are told.
@@ -24,21 +23,24 @@ pub(crate) type Unknowns = BTreeMap<Unknown, Vec<String>>;
 pub(crate) fn unknowns_of(alloc: Global, space: &Space) -> Result<Unknowns, Memory> {
     let mut unknowns = BTreeMap::new(alloc);
     for place in 0..space.relations.len() {
-        for tuple in space.rows(alloc, relation_at(place))? {
-            if has_null(&tuple) {
-                add_tuple(alloc, &mut unknowns, space, &tuple)?;
-            }
-        }
+        let rows = space.rows(alloc, relation_at(place))?;
+        add_rows(alloc, &mut unknowns, space, rows.as_slice())?;
     }
     Ok(unknowns)
 }
 
-fn has_null(tuple: &Tuple) -> bool {
-    tuple
-        .values
-        .as_slice()
-        .iter()
-        .any(|value| matches!(value, Value::Null(_)))
+fn add_rows(
+    alloc: Global,
+    unknowns: &mut Unknowns,
+    space: &Space,
+    rows: &[Tuple],
+) -> Result<(), Memory> {
+    for tuple in rows {
+        if has_unknown(tuple) {
+            add_tuple(alloc, unknowns, space, tuple)?;
+        }
+    }
+    Ok(())
 }
 
 // Adds a tuple to each of its unknowns, once.
@@ -62,12 +64,12 @@ fn add_tuple(
 
 // Whether the value stands in front of this place too.
 fn stands_before(tuple: &Tuple, place: usize, value: &Value) -> bool {
-    tuple
-        .values
-        .as_slice()
-        .iter()
-        .take(place)
-        .any(|other| other == value)
+    for other in tuple.values.as_slice().iter().take(place) {
+        if other == value {
+            return true;
+        }
+    }
+    false
 }
 
 fn add_text(
@@ -88,38 +90,30 @@ fn add_text(
     Ok(())
 }
 
-/// Adds the unknowns. It is refused only for want of memory.
-pub(crate) fn add_unknowns(document: &mut Document, unknowns: &Unknowns) -> Result<(), AllocError> {
-    document.say("<h2 id=\"unknowns\">Unknowns</h2>")?;
+/// Adds the unknowns.
+pub(crate) fn add_unknowns(document: &mut Document, unknowns: &Unknowns) {
+    document.say("<h2 id=\"unknowns\">Unknowns</h2>");
     if unknowns.is_empty() {
         return document.say("<p>None.</p>");
     }
-    document.say(HEADER)?;
+    document.say(HEADER);
     for (unknown, texts) in unknowns {
-        add_row(document, *unknown, texts.as_slice())?;
+        let row = row_of(document, *unknown, texts.as_slice());
+        document.made(row);
     }
-    document.say("</table>")
+    document.say("</table>");
 }
 
-fn add_row(document: &mut Document, unknown: Unknown, texts: &[String]) -> Result<(), AllocError> {
-    let mut name = Text::new(document.alloc);
-    add_unknown(&mut name, unknown);
-    let name = name.done()?;
-    let line = row_of(document, name.as_str(), texts)?;
-    document.add(line)
-}
-
-fn row_of(document: &Document, name: &str, texts: &[String]) -> Result<String, AllocError> {
-    let alloc = document.alloc;
-    let mut line = Text::new(alloc);
-    write!(line, "<tr><td class=\"u\">{name}</td><td>");
+fn row_of(document: &Document, unknown: Unknown, texts: &[String]) -> Result<String, AllocError> {
+    let mut line = Text::from_str(document.alloc, "<tr><td class=\"u\">");
+    add_unknown(&mut line, unknown);
+    line.push_str("</td><td>");
     for (place, text) in texts.iter().enumerate() {
         line.push_str(if 0 < place { "<br>" } else { "" });
         line.made(document.code(text.as_str()));
     }
-    write!(
-        line,
-        "</td><td><code>replace {name} with VALUE</code></td></tr>"
-    );
+    line.push_str("</td><td><code>replace ");
+    add_unknown(&mut line, unknown);
+    line.push_str(" with VALUE</code></td></tr>");
     line.done()
 }

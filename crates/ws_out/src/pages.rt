@@ -10,7 +10,7 @@ use base_types::Memory;
 use std::alloc::{AllocError, Global};
 use ws_draw::add_html;
 use ws_fault::Refusal;
-use ws_print::Text;
+use ws_print::{Lines, Text};
 use ws_reply::Context;
 use ws_space::Space;
 
@@ -26,20 +26,18 @@ const NAVIGATION: &str =
 #[derive(Drop)]
 pub(crate) struct Document {
     pub alloc: Global,
-    pub lines: Vec<String>,
+    lines: Lines,
 }
 
 impl Document {
-    /// Adds a line. It is refused only for want of memory.
-    pub fn say(&mut self, line: &str) -> Result<(), AllocError> {
-        self.lines.push(String::from_str(self.alloc, line)?)?;
-        Ok(())
+    /// Adds a line.
+    pub fn say(&mut self, line: &str) {
+        self.lines.push_str(line);
     }
 
-    /// Adds a line that is written already. It is refused only for want of memory.
-    pub fn add(&mut self, line: String) -> Result<(), AllocError> {
-        self.lines.push(line)?;
-        Ok(())
+    /// Adds a line that was made, if there was memory for it.
+    pub fn made<E: Drop>(&mut self, line: Result<String, E>) {
+        self.lines.made(line);
     }
 
     /// The text as it is shown by HTML. It is refused only for want of memory.
@@ -74,10 +72,10 @@ pub fn page(
 ) -> Result<Vec<String>, Refusal> {
     let mut document = Document {
         alloc,
-        lines: Vec::new(alloc),
+        lines: Lines::new(alloc),
     };
     add_all(&mut document, space, context)?;
-    Ok(document.lines)
+    Ok(document.lines.done()?)
 }
 
 fn add_all(
@@ -98,7 +96,7 @@ fn add_parts(
     add_top(document, space, context, unknowns.len())?;
     add_questions(document, space)?;
     add_tables(document, space)?;
-    add_unknowns(document, unknowns)?;
+    add_unknowns(document, unknowns);
     add_mappings(document, space)?;
     add_log(document, space)
 }
@@ -111,48 +109,42 @@ fn add_top(
     unknowns: usize,
 ) -> Result<(), AllocError> {
     let name = document.shown(name_of(context.file))?;
-    add_head(document, name.as_str())?;
-    add_counts(document, space, name.as_str(), unknowns)?;
-    document.say(NAVIGATION)
+    add_head(document, name.as_str());
+    add_counts(document, space, name.as_str(), unknowns);
+    document.say(NAVIGATION);
+    Ok(())
 }
 
 // The head, with the style sheet in it.
-fn add_head(document: &mut Document, name: &str) -> Result<(), AllocError> {
-    document.say("<!doctype html>")?;
-    document.say(META)?;
-    let alloc = document.alloc;
-    let mut line = format!(in alloc; "<title>{name}</title><style>")?;
+fn add_head(document: &mut Document, name: &str) {
+    document.say("<!doctype html>");
+    document.say(META);
+    let mut line = Text::new(document.alloc);
+    write!(line, "<title>{name}</title><style>");
     for (place, style) in STYLE.iter().enumerate() {
         if 0 < place {
-            document.add(line)?;
-            line = String::new(alloc);
+            document.made(line.done());
+            line = Text::new(document.alloc);
         }
-        line.push_str(style)?;
+        line.push_str(style);
     }
-    line.push_str("</style></head><body>")?;
-    document.add(line)
+    line.push_str("</style></head><body>");
+    document.made(line.done());
 }
 
-fn add_counts(
-    document: &mut Document,
-    space: &Space,
-    name: &str,
-    unknowns: usize,
-) -> Result<(), AllocError> {
-    let alloc = document.alloc;
+fn add_counts(document: &mut Document, space: &Space, name: &str, unknowns: usize) {
     let at = space.at();
     let last = space.state.last();
     let tuples = space.state.facts().len();
     let waiting = space.state.waiting().len();
-    let mut line = Text::new(alloc);
+    let mut line = Text::new(document.alloc);
     write!(
         line,
         "<h1>{name}</h1><p>At record {at}; last update {last}. "
     );
-    let counts = format!(in alloc;
+    write!(
+        line,
         "Tuples: {tuples}. Unknowns: {unknowns}. Waiting: {waiting}.</p>"
-    )?;
-    line.push_str(counts.as_str());
-    let line = line.done()?;
-    document.add(line)
+    );
+    document.made(line.done());
 }

@@ -49,10 +49,12 @@ fn object_line(
     fact: &Fact,
 ) -> Result<String, AllocError> {
     let mut line = Text::from_str(alloc, begin);
-    for (place, (key, value)) in keys.iter().zip(fact.values.iter()).enumerate() {
-        line.push_str(if 0 < place { "," } else { "" });
-        line.push_str(key.as_str());
-        add_value(alloc, &mut line, value);
+    for (place, key) in keys.iter().enumerate() {
+        if let Some(value) = fact.values.get(place) {
+            line.push_str(if 0 < place { "," } else { "" });
+            line.push_str(key.as_str());
+            add_value(alloc, &mut line, value);
+        }
     }
     line.push_str("}}");
     line.done()

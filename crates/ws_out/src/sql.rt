@@ -4,7 +4,7 @@ use crate::texts::facts_of;
 use std::alloc::{AllocError, Global};
 use std::fmt::Write;
 use ws_fault::Refusal;
-use ws_print::{Text, add_unknown};
+use ws_print::{Lines, Text, add_unknown};
 use ws_space::Space;
 use ws_written::{Column, Fact, Relation, Unknown, Value};
 
@@ -15,8 +15,8 @@ const UNKNOWNS: &str =
 #[derive(Drop)]
 struct Script {
     alloc: Global,
-    lines: Vec<String>,
-    unknowns: Vec<String>,
+    lines: Lines,
+    unknowns: Lines,
 }
 
 /// The statements for these relations, by their numbers. It is refused only for want of memory.
@@ -27,64 +27,55 @@ pub(crate) fn sql_lines(
 ) -> Result<Vec<String>, Refusal> {
     let mut script = Script {
         alloc,
-        lines: Vec::new(alloc),
-        unknowns: Vec::new(alloc),
+        lines: Lines::new(alloc),
+        unknowns: Lines::new(alloc),
     };
-    script.say("BEGIN;")?;
+    script.lines.push_str("BEGIN;");
     for number in relations {
         if let Some(relation) = space.relations.get(*number as usize) {
             let facts = facts_of(alloc, space, *number)?;
             script.add_table(relation, facts.as_slice())?;
         }
     }
-    script.say(UNKNOWNS)?;
+    script.lines.push_str(UNKNOWNS);
     Ok(script.ended()?)
 }
 
 impl Script {
-    fn say(&mut self, line: &str) -> Result<(), AllocError> {
-        self.lines.push(String::from_str(self.alloc, line)?)?;
-        Ok(())
-    }
-
     // All statements, in order.
     fn ended(self) -> Result<Vec<String>, AllocError> {
         let Script {
-            alloc,
+            alloc: _,
             mut lines,
-            mut unknowns,
+            unknowns,
         } = self;
-        lines.append(&mut unknowns)?;
-        lines.push(String::from_str(alloc, "COMMIT;")?)?;
-        Ok(lines)
+        for line in unknowns.done()? {
+            lines.push(line);
+        }
+        lines.push_str("COMMIT;");
+        lines.done()
     }
 
     fn add_table(&mut self, relation: &Relation, facts: &[Fact]) -> Result<(), AllocError> {
         let columns = columns_of(self.alloc, relation, facts)?;
-        let statement = create(self.alloc, relation, columns.as_slice())?;
-        self.lines.push(statement)?;
+        self.lines
+            .made(create(self.alloc, relation, columns.as_slice()));
         for (place, fact) in facts.iter().enumerate() {
             let row = place.saturating_add(1);
-            let line = insert(self.alloc, relation, columns.as_slice(), row, fact)?;
-            self.lines.push(line)?;
-            self.add_unknowns(relation, row, fact)?;
+            let line = insert(self.alloc, relation, columns.as_slice(), row, fact);
+            self.lines.made(line);
+            self.add_unknowns(relation, row, fact);
         }
         Ok(())
     }
 
-    fn add_unknowns(
-        &mut self,
-        relation: &Relation,
-        row: usize,
-        fact: &Fact,
-    ) -> Result<(), AllocError> {
-        for (column, value) in relation.columns.iter().zip(fact.values.iter()) {
-            if let Value::Unknown(unknown) = value {
-                let line = named(self.alloc, relation, row, column, *unknown)?;
-                self.unknowns.push(line)?;
+    fn add_unknowns(&mut self, relation: &Relation, row: usize, fact: &Fact) {
+        for (place, column) in relation.columns.iter().enumerate() {
+            if let Some(Value::Unknown(unknown)) = fact.values.get(place) {
+                let line = named(self.alloc, relation, row, column, *unknown);
+                self.unknowns.made(line);
             }
         }
-        Ok(())
     }
 }
 
@@ -111,11 +102,21 @@ fn columns_of<'a>(
 }
 
 fn has_numbers(facts: &[Fact], place: usize) -> bool {
-    facts.iter().any(|fact| matches!(fact.values.get(place), Some(Value::Number(_))))
+    for fact in facts {
+        if let Some(Value::Number(_)) = fact.values.get(place) {
+            return true;
+        }
+    }
+    false
 }
 
 fn has_texts(facts: &[Fact], place: usize) -> bool {
-    facts.iter().any(|fact| matches!(fact.values.get(place), Some(Value::Text(_))))
+    for fact in facts {
+        if let Some(Value::Text(_)) = fact.values.get(place) {
+            return true;
+        }
+    }
+    false
 }
 
 fn create(alloc: Global, relation: &Relation, columns: &[Kind<'_>]) -> Result<String, AllocError> {
@@ -141,9 +142,11 @@ fn insert(
     let name = relation.name.as_str();
     let mut line = Text::new(alloc);
     write!(line, "INSERT INTO \"{name}\" VALUES ({row}");
-    for (kind, value) in columns.iter().zip(fact.values.iter()) {
-        line.push_str(", ");
-        add_cell(&mut line, kind.is_number, value);
+    for (place, kind) in columns.iter().enumerate() {
+        if let Some(value) = fact.values.get(place) {
+            line.push_str(", ");
+            add_cell(&mut line, kind.is_number, value);
+        }
     }
     line.push_str(");");
     line.done()

@@ -8,9 +8,10 @@ use ws_written::Fact;
 
 /// The tuples of a relation as they are said, in order. It is refused only for want of memory.
 pub(crate) fn facts_of(alloc: Global, space: &Space, relation: u32) -> Result<Vec<Fact>, Memory> {
+    let rows = space.rows(alloc, relation)?;
     let mut facts = Vec::new(alloc);
-    for tuple in space.rows(alloc, relation)? {
-        facts.push(space.shown(alloc, &tuple)?)?;
+    for tuple in rows.iter() {
+        facts.push(space.shown(alloc, tuple)?)?;
     }
     Ok(facts)
 }

@@ -70,10 +70,8 @@ pub fn asked_now(
 // How many answers the update has, if it waits.
 fn answers_of(space: &Space, number: u32) -> usize {
     for waiting in space.state.waiting().as_slice() {
-        if let Some(held) = space.state.held().get(waiting.held) {
-            if held.update.number == number {
-                return waiting.answers.len();
-            }
+        if space.number_at(waiting.held) == Some(number) {
+            return waiting.answers.len();
         }
     }
     0

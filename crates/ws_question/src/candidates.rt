@@ -29,26 +29,36 @@ pub(crate) fn candidates_of(
     like: Option<&str>,
     limit: usize,
 ) -> Result<Candidates, Memory> {
-    let mut shown = Vec::new(alloc);
-    let mut fit = 0usize;
+    let mut candidates = Candidates {
+        shown: Vec::new(alloc),
+        fit: 0,
+    };
     for place in asked.ranked.iter() {
         let Some(tuple) = asked.question.candidates.get(*place) else {
             continue;
         };
-        if like.is_none() && limit <= shown.len() {
-            fit = fit.saturating_add(1);
+        if like.is_none() && limit <= candidates.shown.len() {
+            candidates.fit = candidates.fit.saturating_add(1);
             continue;
         }
         let text = fact_text(alloc, space, tuple)?;
         if has_text(alloc, text.as_str(), like)? {
-            fit = fit.saturating_add(1);
-            if shown.len() < limit {
-                let number = place.saturating_add(1);
-                shown.push(Candidate { number, text })?;
-            }
+            candidates.add(*place, text, limit)?;
         }
     }
-    Ok(Candidates { shown, fit })
+    Ok(candidates)
+}
+
+impl Candidates {
+    // Adds the candidate at a place, with its text, and shows it if not so many are shown yet.
+    fn add(&mut self, place: usize, text: String, limit: usize) -> Result<(), Memory> {
+        self.fit = self.fit.saturating_add(1);
+        if self.shown.len() < limit {
+            let number = place.saturating_add(1);
+            self.shown.push(Candidate { number, text })?;
+        }
+        Ok(())
+    }
 }
 
 fn has_text(alloc: Global, text: &str, like: Option<&str>) -> Result<bool, Memory> {

@@ -2,10 +2,10 @@
 
 use crate::asked::AskedNow;
 use crate::candidates::{Candidate, candidates_of};
-use crate::texts::{count_text, fact_text, facts_text};
-use base_types::{Memory, Write};
+use crate::texts::{fact_text, facts_text, write_text};
+use base_types::Memory;
 use std::alloc::Global;
-use ws_print::{Lines, Text, add_quoted, add_rule};
+use ws_print::{Lines, Text, add_count, add_quoted, add_rule};
 use ws_space::Space;
 
 // How much of what the update did before it asked is told.
@@ -38,8 +38,8 @@ pub fn question_lines(
     let mut lines = Lines::new(alloc);
     lines.made(question_line(alloc, space, asked));
     add_candidates(alloc, &mut lines, space, asked, like, limit)?;
-    add_why(alloc, &mut lines, space, asked)?;
-    add_so_far(alloc, &mut lines, space, asked)?;
+    add_why(alloc, &mut lines, space, asked);
+    add_so_far(alloc, &mut lines, space, asked);
     Ok(lines.done()?)
 }
 
@@ -64,8 +64,8 @@ fn add_candidates(
             "  .. and {more} more: questions {number} --like TEXT, or --limit N"
         ));
     }
-    if found.fit == 0 {
-        add_none_like(alloc, lines, asked, like)?;
+    if let (0, Some(like)) = (found.fit, like) {
+        lines.made(none_like(alloc, asked, like));
     }
     if asked.question.is_positive {
         lines.made(numbered(alloc, "new", width, "none of them"));
@@ -73,23 +73,14 @@ fn add_candidates(
     Ok(())
 }
 
-fn add_none_like(
-    alloc: Global,
-    lines: &mut Lines,
-    asked: &AskedNow,
-    like: Option<&str>,
-) -> Result<(), Memory> {
-    let Some(like) = like else {
-        return Ok(());
-    };
-    let count = count_text(alloc, asked.count(), "candidate")?;
-    let mut line = Text::new(alloc);
-    write!(line, "  none of {count} has ");
+// That no candidate has the text in it.
+fn none_like(alloc: Global, asked: &AskedNow, like: &str) -> Result<String, Memory> {
+    let mut line = Text::from_str(alloc, "  none of ");
+    add_count(&mut line, asked.count(), "candidate");
+    line.push_str(" has ");
     add_quoted(&mut line, like);
     line.push_str(" in it");
-    let line = line.done()?;
-    lines.push(line);
-    Ok(())
+    Ok(line.done()?)
 }
 
 // How wide the numbers are.
@@ -115,43 +106,30 @@ fn numbered(alloc: Global, number: &str, width: usize, text: &str) -> Result<Str
 }
 
 // By which mapping and since when.
-fn add_why(
-    alloc: Global,
-    lines: &mut Lines,
-    space: &Space,
-    asked: &AskedNow,
-) -> Result<(), Memory> {
+fn add_why(alloc: Global, lines: &mut Lines, space: &Space, asked: &AskedNow) {
     let mut line = Text::from_str(alloc, "why: ");
     if let Some(rule) = asked.rule(space) {
         add_rule(&mut line, space.relations.as_slice(), rule);
     }
-    let line = line.done()?;
-    lines.push(line);
+    lines.made(line.done());
     if asked.question.is_positive {
-        let since = facts_text(alloc, space, asked.question.since.as_slice())?;
-        lines.made(format!(in alloc; "     since {since}"));
+        lines.made(since_line(alloc, space, asked));
     }
-    Ok(())
+}
+
+fn since_line(alloc: Global, space: &Space, asked: &AskedNow) -> Result<String, Memory> {
+    let since = facts_text(alloc, space, asked.question.since.as_slice())?;
+    Ok(format!(in alloc; "     since {since}")?)
 }
 
 // What the update did before it asked.
-fn add_so_far(
-    alloc: Global,
-    lines: &mut Lines,
-    space: &Space,
-    asked: &AskedNow,
-) -> Result<(), Memory> {
+fn add_so_far(alloc: Global, lines: &mut Lines, space: &Space, asked: &AskedNow) {
     let so_far = asked.question.so_far.as_slice();
     for write in so_far.iter().take(SO_FAR) {
-        let (sign, text) = match write {
-            Write::Insert(tuple) => ("+", fact_text(alloc, space, tuple)?),
-            Write::Delete(tuple) => ("-", fact_text(alloc, space, tuple)?),
-        };
-        lines.made(format!(in alloc; "so far: {sign} {text}"));
+        lines.made(write_text(alloc, space, write, "so far: + ", "so far: - "));
     }
     if SO_FAR < so_far.len() {
         let more = so_far.len().saturating_sub(SO_FAR);
         lines.made(format!(in alloc; "so far: and {more} more"));
     }
-    Ok(())
 }

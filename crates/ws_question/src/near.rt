@@ -19,35 +19,45 @@ const LOOKED_AT: usize = 200;
 /// The tuples that share most values with this one, as commands take them, three at most; if none shares one, those whose
 /// first value is spelled like its own. It is refused only for want of memory.
 pub fn near_texts(alloc: Global, space: &Space, fact: &Fact) -> Result<Vec<String>, Memory> {
-    let sharing = sharing(alloc, space, fact)?;
-    if sharing.is_empty() {
+    let mut counts: BTreeMap<Tuple, usize> = BTreeMap::new(alloc);
+    count_all(alloc, &mut counts, space, fact)?;
+    if counts.is_empty() {
         return alike(alloc, space, fact);
     }
+    let found = most_first(alloc, &counts)?;
     let mut texts = Lines::new(alloc);
-    for tuple in sharing.iter() {
+    for (_, tuple) in found.iter().take(TOLD) {
         texts.made(inner_text(alloc, space, tuple));
     }
     Ok(texts.done()?)
 }
 
-// The tuples that share most values with it, and then by their order.
-fn sharing(alloc: Global, space: &Space, fact: &Fact) -> Result<Vec<Tuple>, Memory> {
-    let mut counts: BTreeMap<Tuple, usize> = BTreeMap::new(alloc);
+// Counts for each tuple how many values it shares with this one.
+fn count_all(
+    alloc: Global,
+    counts: &mut BTreeMap<Tuple, usize>,
+    space: &Space,
+    fact: &Fact,
+) -> Result<(), Memory> {
     for (column, value) in fact.values.iter().enumerate() {
         if let Some(value) = space.within_value(alloc, value)? {
-            count_sharing(&mut counts, space, fact.relation, column, &value)?;
+            count_sharing(counts, space, fact.relation, column, &value)?;
         }
     }
+    Ok(())
+}
+
+// The tuples that were counted, each with how far its count is from the greatest: by these, and then by their order.
+fn most_first(
+    alloc: Global,
+    counts: &BTreeMap<Tuple, usize>,
+) -> Result<Vec<(usize, Tuple)>, Memory> {
     let mut found = Vec::new(alloc);
     for (tuple, count) in counts.iter() {
-        found.push((*count, tuple.share()?))?;
+        found.push((usize::MAX.saturating_sub(*count), tuple.share()?))?;
     }
-    found.sort_by(|one, other| other.0.cmp(&one.0))?;
-    let mut first = Vec::new(alloc);
-    for (_, tuple) in found.iter().take(TOLD) {
-        first.push(tuple.share()?)?;
-    }
-    Ok(first)
+    found.sort()?;
+    Ok(found)
 }
 
 // Counts those that have the value in the column.

@@ -10,38 +10,66 @@ use ws_run::Question;
 /// refused only for want of memory.
 pub(crate) fn ranked(alloc: Global, question: &Question) -> Result<Vec<usize>, Memory> {
     let known = known_values(alloc, question)?;
-    let mut shared = Vec::new(alloc);
-    for (place, candidate) in question.candidates.as_slice().iter().enumerate() {
-        shared.push((shared_with(candidate, &known), place))?;
-    }
-    if question.is_positive {
-        shared.sort_by(|one, other| other.0.cmp(&one.0))?;
-    }
+    let counts = counts_of(alloc, question, &known)?;
     let mut places = Vec::new(alloc);
-    for (_, place) in shared.iter() {
+    for (_, place) in counts.iter() {
         places.push(*place)?;
     }
     Ok(places)
 }
 
+// The places of the candidates, each with what goes before it: how far the count of its known values is from the greatest, or
+// nothing if the question asks what goes.
+fn counts_of(
+    alloc: Global,
+    question: &Question,
+    known: &BTreeSet<Value>,
+) -> Result<Vec<(usize, usize)>, Memory> {
+    let mut counts = Vec::new(alloc);
+    for (place, candidate) in question.candidates.as_slice().iter().enumerate() {
+        let count = if question.is_positive {
+            shared_with(candidate, known)
+        } else {
+            0
+        };
+        counts.push((usize::MAX.saturating_sub(count), place))?;
+    }
+    counts.sort()?;
+    Ok(counts)
+}
+
 // The values of the image and of what the update did before it asked, but for those of the wanted tuple.
 fn known_values(alloc: Global, question: &Question) -> Result<BTreeSet<Value>, Memory> {
     let mut known = BTreeSet::new(alloc);
-    for tuple in question.since.as_slice() {
-        add_values(alloc, &mut known, tuple)?;
+    add_image(alloc, &mut known, question.since.as_slice())?;
+    add_written(alloc, &mut known, question.so_far.as_slice())?;
+    remove_wanted(&mut known, question.asked.tuples.as_slice());
+    Ok(known)
+}
+
+fn add_image(alloc: Global, known: &mut BTreeSet<Value>, image: &[Tuple]) -> Result<(), Memory> {
+    for tuple in image {
+        add_values(alloc, known, tuple)?;
     }
-    for write in question.so_far.as_slice() {
+    Ok(())
+}
+
+fn add_written(alloc: Global, known: &mut BTreeSet<Value>, writes: &[Write]) -> Result<(), Memory> {
+    for write in writes {
         match write {
-            Write::Insert(tuple) => add_values(alloc, &mut known, tuple)?,
-            Write::Delete(tuple) => add_values(alloc, &mut known, tuple)?,
+            Write::Insert(tuple) => add_values(alloc, known, tuple)?,
+            Write::Delete(tuple) => add_values(alloc, known, tuple)?,
         }
     }
-    for tuple in question.asked.tuples.as_slice() {
+    Ok(())
+}
+
+fn remove_wanted(known: &mut BTreeSet<Value>, wanted: &[Tuple]) {
+    for tuple in wanted {
         for value in tuple.values.as_slice() {
             known.remove(value);
         }
     }
-    Ok(known)
 }
 
 fn add_values(alloc: Global, known: &mut BTreeSet<Value>, tuple: &Tuple) -> Result<(), Memory> {
@@ -53,10 +81,11 @@ fn add_values(alloc: Global, known: &mut BTreeSet<Value>, tuple: &Tuple) -> Resu
 
 // How many values of the tuple are among these.
 fn shared_with(tuple: &Tuple, known: &BTreeSet<Value>) -> usize {
-    tuple
-        .values
-        .as_slice()
-        .iter()
-        .filter(|&value| known.contains(value))
-        .count()
+    let mut count = 0usize;
+    for value in tuple.values.as_slice() {
+        if known.contains(value) {
+            count = count.saturating_add(1);
+        }
+    }
+    count
 }

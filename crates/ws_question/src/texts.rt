@@ -1,6 +1,6 @@
 //! Printed forms as texts of their own.
 
-use base_types::{Memory, Null, Tuple};
+use base_types::{Memory, Null, Tuple, Write};
 use std::alloc::Global;
 use ws_print::{Text, add_count, add_fact, add_unknown};
 use ws_space::{Space, unknown_of};
@@ -14,6 +14,22 @@ pub fn fact_text(alloc: Global, space: &Space, tuple: &Tuple) -> Result<String, 
         &space.fact(alloc, tuple)?,
     );
     Ok(text.done()?)
+}
+
+/// A tuple that came or went, after the one of two words that says so. It is refused only for want of memory.
+pub(crate) fn write_text(
+    alloc: Global,
+    space: &Space,
+    write: &Write,
+    came: &str,
+    went: &str,
+) -> Result<String, Memory> {
+    let (word, tuple) = match write {
+        Write::Insert(tuple) => (came, tuple),
+        Write::Delete(tuple) => (went, tuple),
+    };
+    let text = fact_text(alloc, space, tuple)?;
+    Ok(format!(in alloc; "{word}{text}")?)
 }
 
 /// A tuple within, as a command takes it. It is refused only for want of memory.

@@ -34,7 +34,7 @@ impl Note {
     }
 
     /// Its words and its commands.
-    pub(crate) fn object(&self, alloc: Global) -> Result<Object, Memory> {
+    pub(crate) fn object(&self, alloc: Global) -> Object {
         let mut commands = Items::new(alloc);
         for command in self.commands.iter() {
             commands.text(command.as_str());
@@ -42,6 +42,6 @@ impl Note {
         let mut object = Object::new(alloc);
         object.text("words", self.words.as_str());
         object.items("commands", commands);
-        Ok(object)
+        object
     }
 }

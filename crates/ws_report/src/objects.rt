@@ -1,12 +1,15 @@
 //! The object of a change.
 
+use crate::notes::Note;
 use crate::replies::CANDIDATES;
 use crate::reports::{AgainTold, Report, Telling};
-use crate::words::value_text;
+use crate::words::named_text;
+use base_types::Value;
 use def_memory::Memory;
 use std::alloc::Global;
 use ws_json::{Items, Object};
 use ws_question::{fact_text, question_object};
+use ws_reply::{number_items, text_items};
 use ws_space::Space;
 use ws_state::{Filled, Moved};
 
@@ -19,107 +22,77 @@ impl Report {
         trying: bool,
         at: u32,
     ) -> Result<Object, Memory> {
+        let asked = self.asked(alloc, space)?;
         let mut object = Object::new(alloc);
-        match self.add_all(alloc, space, trying, at, &mut object) {
-            Ok(()) => Ok(object),
-            Err(memory) => Err(memory),
+        if let Some(asked) = asked {
+            object.object("question", asked);
         }
-    }
-
-    fn add_all(
-        &self,
-        alloc: Global,
-        space: &Space,
-        trying: bool,
-        at: u32,
-        object: &mut Object,
-    ) -> Result<(), Memory> {
         object.text("reply", if trying { "try" } else { "change" });
         object.text("did", self.did);
         object.text("line", self.line.as_str());
         object.number("at", i64::from(at));
-        self.add_effect(alloc, space, object)?;
-        self.add_said(alloc, space, object)?;
-        self.add_lists(alloc, object)?;
-        if !trying && !self.next.is_empty() {
-            object.items("next", texts(alloc, self.next.as_slice()));
-        }
-        Ok(())
-    }
-
-    fn add_effect(&self, alloc: Global, space: &Space, object: &mut Object) -> Result<(), Memory> {
-        let with_mapping = self.telling == Telling::Whole;
-        let came = moved_items(alloc, space, self.effect.came.as_slice(), with_mapping)?;
-        let went = moved_items(alloc, space, self.effect.went.as_slice(), with_mapping)?;
-        object.items("came", came);
-        object.items("went", went);
-        let filled = filled_items(alloc, space, self.effect.filled.as_slice())?;
-        object.items("filled", filled);
-        Ok(())
-    }
-
-    // The number, the question, and what else is said.
-    fn add_said(&self, alloc: Global, space: &Space, object: &mut Object) -> Result<(), Memory> {
         if let Some(number) = self.number {
             object.number("number", i64::from(number));
         }
-        if let Some(question) = &self.question {
-            let asked = question_object(alloc, space, question, None, CANDIDATES)?;
-            object.object("question", asked);
+        self.add_effect(alloc, space, &mut object);
+        self.add_lists(alloc, &mut object);
+        if !trying && !self.next.is_empty() {
+            object.items("next", text_items(alloc, self.next.as_slice()));
         }
-        if self.telling != Telling::Whole || !self.also.is_empty() {
-            object.items("also", texts(alloc, self.also.as_slice()));
-        }
-        Ok(())
+        Ok(object)
     }
 
-    // Other updates, hints, and the updates of a change of several.
-    fn add_lists(&self, alloc: Global, object: &mut Object) -> Result<(), Memory> {
+    // The object of its question, if it has one.
+    fn asked(&self, alloc: Global, space: &Space) -> Result<Option<Object>, Memory> {
+        match &self.question {
+            Some(question) => Ok(Some(question_object(alloc, space, question, None, CANDIDATES)?)),
+            None => Ok(None),
+        }
+    }
+
+    fn add_effect(&self, alloc: Global, space: &Space, object: &mut Object) {
+        let with_mapping = self.telling == Telling::Whole;
+        let came = moved_items(alloc, space, self.effect.came.as_slice(), with_mapping);
+        let went = moved_items(alloc, space, self.effect.went.as_slice(), with_mapping);
+        object.items("came", came);
+        object.items("went", went);
+        object.items(
+            "filled",
+            filled_items(alloc, space, self.effect.filled.as_slice()),
+        );
+    }
+
+    // What else is said, other updates, hints, and the updates of a change of several.
+    fn add_lists(&self, alloc: Global, object: &mut Object) {
+        if self.telling != Telling::Whole || !self.also.is_empty() {
+            object.items("also", text_items(alloc, self.also.as_slice()));
+        }
         if !self.again.is_empty() {
             object.items("again", again_items(alloc, self.again.as_slice()));
         }
         if !self.notes.is_empty() {
-            let mut notes = Items::new(alloc);
-            for note in self.notes.iter() {
-                notes.object(note.object(alloc)?);
-            }
-            object.items("notes", notes);
+            object.items("notes", note_items(alloc, self.notes.as_slice()));
         }
         if let Some(counted) = &self.counted {
-            object.items("numbers", numbers(alloc, counted.numbers.as_slice()));
-            object.items("waiting", numbers(alloc, counted.waiting.as_slice()));
+            object.items("numbers", number_items(alloc, counted.numbers.as_slice()));
+            object.items("waiting", number_items(alloc, counted.waiting.as_slice()));
         }
-        Ok(())
     }
 }
 
-fn texts(alloc: Global, texts: &[String]) -> Items {
+fn note_items(alloc: Global, notes: &[Note]) -> Items {
     let mut items = Items::new(alloc);
-    for text in texts {
-        items.text(text.as_str());
+    for note in notes {
+        items.object(note.object(alloc));
     }
     items
 }
 
-fn numbers(alloc: Global, numbers: &[u32]) -> Items {
-    let mut items = Items::new(alloc);
-    for number in numbers {
-        items.number(i64::from(*number));
-    }
-    items
-}
-
-fn moved_items(
-    alloc: Global,
-    space: &Space,
-    moved: &[Moved],
-    with_mapping: bool,
-) -> Result<Items, Memory> {
+fn moved_items(alloc: Global, space: &Space, moved: &[Moved], with_mapping: bool) -> Items {
     let mut items = Items::new(alloc);
     for one in moved {
         let mut object = Object::new(alloc);
-        let fact = fact_text(alloc, space, &one.tuple)?;
-        object.text("tuple", fact.as_str());
+        object.made("tuple", fact_text(alloc, space, &one.tuple));
         if let Some(number) = one.by {
             if with_mapping {
                 object.text("by", space.mapping_name(number));
@@ -127,21 +100,20 @@ fn moved_items(
         }
         items.object(object);
     }
-    Ok(items)
+    items
 }
 
-fn filled_items(alloc: Global, space: &Space, filled: &[Filled]) -> Result<Items, Memory> {
+fn filled_items(alloc: Global, space: &Space, filled: &[Filled]) -> Items {
     let mut items = Items::new(alloc);
     for one in filled {
-        let name = space.value(alloc, &base_types::Value::Null(one.name))?;
-        let value = space.value(alloc, &one.value)?;
+        let name = Value::Null(one.name);
         let mut object = Object::new(alloc);
-        object.made("unknown", value_text(alloc, &name));
-        object.made("value", value_text(alloc, &value));
+        object.made("unknown", named_text(alloc, space, &name));
+        object.made("value", named_text(alloc, space, &one.value));
         object.number("tuples", i64::from(one.tuples));
         items.object(object);
     }
-    Ok(items)
+    items
 }
 
 fn again_items(alloc: Global, again: &[AgainTold]) -> Items {

@@ -1,5 +1,6 @@
 //! The reply of a change.
 
+use crate::notes::Note;
 use crate::reports::{AgainTold, Report};
 use crate::rows::effect_rows;
 use crate::words::joined;
@@ -68,22 +69,34 @@ impl Report {
         let rows = effect_rows(alloc, space, self)?;
         add_indented(alloc, &mut lines, rows.as_slice());
         add_indented(alloc, &mut lines, self.also.as_slice());
-        if let Some(question) = &self.question {
-            let rows = question_lines(alloc, space, question, None, CANDIDATES)?;
-            add_indented(alloc, &mut lines, rows.as_slice());
-        }
-        for again in self.again.iter() {
-            lines.made(again_line(alloc, again));
-        }
-        for note in self.notes.iter() {
-            lines.made(note.line(alloc));
-        }
+        self.add_question(alloc, space, &mut lines)?;
+        add_again(alloc, &mut lines, self.again.as_slice());
+        add_notes(alloc, &mut lines, self.notes.as_slice());
         if !trying && !self.next.is_empty() {
-            let next = joined(alloc, self.next.as_slice(), " | ")?;
-            lines.made(format!(in alloc; "next: {next}"));
+            lines.made(next_line(alloc, self.next.as_slice()));
         }
         Ok(lines.done()?)
     }
+
+    fn add_question(&self, alloc: Global, space: &Space, lines: &mut Lines) -> Result<(), Memory> {
+        if let Some(question) = &self.question {
+            let rows = question_lines(alloc, space, question, None, CANDIDATES)?;
+            add_indented(alloc, lines, rows.as_slice());
+        }
+        Ok(())
+    }
+}
+
+fn add_notes(alloc: Global, lines: &mut Lines, notes: &[Note]) {
+    for note in notes {
+        lines.made(note.line(alloc));
+    }
+}
+
+// What may be said next.
+fn next_line(alloc: Global, next: &[String]) -> Result<String, Memory> {
+    let next = joined(alloc, next, " | ")?;
+    Ok(format!(in alloc; "next: {next}")?)
 }
 
 // The number of the last record, once the change has its own.
@@ -94,9 +107,11 @@ fn at_after(space: &Space, context: &Context<'_>, is_recorded: bool) -> u32 {
     space.at()
 }
 
-fn again_line(alloc: Global, again: &AgainTold) -> Result<String, Memory> {
-    let words = again.words.as_str();
-    Ok(format!(in alloc; "  ! {words}")?)
+fn add_again(alloc: Global, lines: &mut Lines, again: &[AgainTold]) {
+    for one in again {
+        let words = one.words.as_str();
+        lines.made(format!(in alloc; "  ! {words}"));
+    }
 }
 
 // The rows, with two blanks in front.

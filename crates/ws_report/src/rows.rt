@@ -1,7 +1,8 @@
 //! What came, went and was filled, in lines.
 
 use crate::reports::{Report, Telling};
-use crate::words::value_text;
+use crate::words::named_text;
+use base_types::Value;
 use def_memory::Memory;
 use std::alloc::Global;
 use ws_print::{Lines, Text};
@@ -35,9 +36,8 @@ pub fn moved_row(
 
 // `= ?U.P is VALUE, in K tuples`.
 fn filled_row(alloc: Global, space: &Space, filled: &Filled) -> Result<String, Memory> {
-    let name = space.value(alloc, &base_types::Value::Null(filled.name))?;
-    let name = value_text(alloc, &name)?;
-    let value = value_text(alloc, &space.value(alloc, &filled.value)?)?;
+    let name = named_text(alloc, space, &Value::Null(filled.name))?;
+    let value = named_text(alloc, space, &filled.value)?;
     let count = count_text(alloc, filled.tuples as usize, "tuple")?;
     Ok(format!(in alloc; "= {name} is {value}, in {count}")?)
 }

@@ -10,13 +10,6 @@ use ws_space::Space;
 
 const MORE: &str = "more steps: --steps N, or ask whether the mappings go round for ever";
 
-/// How many tuples the mapping of this name made.
-#[derive(Drop)]
-struct Count {
-    name: String,
-    tuples: u32,
-}
-
 /// The refusal of an update for which so many steps did not suffice, with what each mapping made in them.
 pub fn spent_fault(
     alloc: Global,
@@ -25,9 +18,9 @@ pub fn spent_fault(
     made: &MadeList,
 ) -> Result<Refusal, Memory> {
     let mut hint = Text::new(alloc);
-    for count in counts_of(alloc, space, made)?.iter() {
+    for (name, tuples) in counts_of(alloc, space, made)?.iter() {
         hint.push_str(if hint.is_empty() { "" } else { ", " });
-        hint.made(count_words(alloc, count));
+        hint.made(count_words(alloc, name.as_str(), *tuples));
     }
     hint.push_str(if hint.is_empty() { "" } else { "; " });
     hint.push_str(MORE);
@@ -41,23 +34,21 @@ pub fn spent_fault(
     }))
 }
 
-// What each mapping made, by their names; those that made nothing are left out.
-fn counts_of(alloc: Global, space: &Space, made: &MadeList) -> Result<Vec<Count>, Memory> {
+// The mappings that made something, by their names, each with how many tuples it made.
+fn counts_of(alloc: Global, space: &Space, made: &MadeList) -> Result<Vec<(String, u32)>, Memory> {
     let mut counts = Vec::new(alloc);
-    for one in made.as_slice().iter().filter(|one| one.tuples > 0) {
-        counts.push(Count {
-            name: space.source_name(alloc, one.source)?,
-            tuples: one.tuples,
-        })?;
+    for one in made.as_slice() {
+        if 0 < one.tuples {
+            counts.push((space.source_name(alloc, one.source)?, one.tuples))?;
+        }
     }
-    counts.sort_by(|one: &Count, other: &Count| one.name.as_str().cmp(other.name.as_str()))?;
+    counts.sort()?;
     Ok(counts)
 }
 
 // `NAME made N tuples`; a repair by the name of its mapping.
-fn count_words(alloc: Global, count: &Count) -> Result<String, Memory> {
-    let name = count.name.as_str();
+fn count_words(alloc: Global, name: &str, tuples: u32) -> Result<String, Memory> {
     let name = name.strip_prefix("_fix_").unwrap_or(name);
-    let tuples = count_text(alloc, count.tuples as usize, "tuple")?;
+    let tuples = count_text(alloc, tuples as usize, "tuple")?;
     Ok(format!(in alloc; "{name} made {tuples}")?)
 }

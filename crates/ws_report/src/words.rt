@@ -1,10 +1,11 @@
 //! Words of which replies are made.
 
+use base_types::Value;
 use def_memory::Memory;
 use std::alloc::Global;
 use ws_print::{Text, add_fact, add_facts, add_ranges, add_value};
 use ws_space::Space;
-use ws_written::{Fact, Value};
+use ws_written::Fact;
 
 /// A tuple as a command takes it.
 pub fn said_text(alloc: Global, space: &Space, fact: &Fact) -> Result<String, Memory> {
@@ -20,10 +21,11 @@ pub fn facts_text(alloc: Global, space: &Space, facts: &[Fact]) -> Result<String
     Ok(text.done()?)
 }
 
-/// A value as a command takes it.
-pub fn value_text(alloc: Global, value: &Value) -> Result<String, Memory> {
+/// A value by its name, as a command takes it.
+pub fn named_text(alloc: Global, space: &Space, value: &Value) -> Result<String, Memory> {
+    let said = space.value(alloc, value)?;
     let mut text = Text::new(alloc);
-    add_value(&mut text, value);
+    add_value(&mut text, &said);
     Ok(text.done()?)
 }
 

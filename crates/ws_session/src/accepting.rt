@@ -24,6 +24,7 @@ pub(crate) fn stamp_of(alloc: Global, time: &str, curator: &str) -> Result<Stamp
 // The lines as they are said, the first of them with this comment.
 fn said_lines(alloc: Global, lines: Vec<Line>, comment: &str) -> Result<Vec<SaidLine>, Memory> {
     let mut said = Vec::new(alloc);
+    let _ = said.reserve_exact(lines.len());
     let mut are_all = true;
     for (place, line) in lines.into_iter().enumerate() {
         let comment = if place == 0 { comment } else { "" };

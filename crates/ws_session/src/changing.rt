@@ -2,13 +2,13 @@
 
 use crate::commands::Turn;
 use crate::folding::fold_over;
+use crate::kinds::change as changed;
 use crate::leaving::{Done, allowed};
 use crate::loading::loaded;
 use crate::sessions::{Speaker, context_of};
 use def_memory::Memory;
 use std::alloc::Global;
 use std::mem;
-use ws_change::change as changed;
 use ws_command::{Change, Command, Said};
 use ws_fault::{Refusal, Status};
 use ws_look::help;
@@ -167,7 +167,7 @@ impl Speaker {
             return Ok(None);
         }
         let count = (at.saturating_sub(space.first) as usize).saturating_add(1);
-        match Space::open(alloc, texts.get(..count).unwrap_or(texts)) {
+        match Space::open(alloc, texts.get(..count).unwrap_or(texts), false) {
             Ok(past) => Ok(Some(past)),
             Err(Opening::Unread(place)) => Err(self.unread(alloc, place)),
             Err(Opening::Memory) => Err(Refusal::Memory),

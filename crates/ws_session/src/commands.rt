@@ -40,7 +40,8 @@ impl Session {
     }
 
     fn answer(&mut self, rt: &HostRuntime, turn: &Turn<'_>) -> Result<Option<Reply>, Refusal> {
-        if !self.open(rt, access_of(turn.line))? {
+        let verb = verb_of(turn.line);
+        if !self.open(rt, access_of(verb), tells_log(verb))? {
             return self.answer_without(rt, turn);
         }
         match self.done(rt, turn) {
@@ -131,15 +132,29 @@ fn is_blank(line: &str) -> bool {
     trimmed.is_empty() || trimmed.starts_with('#')
 }
 
-// How the file is locked for a line: for a change, if its first word is that of one.
-fn access_of(line: &str) -> Access {
+// Whether a character ends the first word of a line.
+fn ends_word(letter: char) -> bool {
+    !letter.is_ascii_alphabetic() && letter != '_'
+}
+
+// The verb that is the first word of a line, if it is one.
+fn verb_of(line: &str) -> Option<Verb> {
     let rest = line.trim_start();
-    let end = rest.find(|c: char| !c.is_ascii_alphabetic() && c != '_');
-    let word = rest.get(..end.unwrap_or(rest.len())).unwrap_or(rest);
-    match Verb::of(word) {
+    let end = rest.find(ends_word);
+    Verb::of(rest.get(..end.unwrap_or(rest.len())).unwrap_or(rest))
+}
+
+// How the file is locked for a line: for a change, if its verb is that of one.
+fn access_of(verb: Option<Verb>) -> Access {
+    match verb {
         Some(verb) if verb.changes() => Access::Change,
         _ => Access::Read,
     }
+}
+
+// Whether the log is told.
+fn tells_log(verb: Option<Verb>) -> bool {
+    verb == Some(Verb::Log) || verb == Some(Verb::Page)
 }
 
 fn out_of_memory(alloc: Global) -> Result<Fault, Memory> {

@@ -79,5 +79,5 @@ fn writes_file(look: &Look) -> bool {
 }
 
 fn exports_file(export: &Export) -> bool {
-    export.to.is_some()
+    export.to.is_some() || export.sqlite.is_some()
 }

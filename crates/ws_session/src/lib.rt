@@ -11,6 +11,7 @@ mod changing;
 mod commands;
 mod failing;
 mod folding;
+mod kinds;
 mod leaving;
 mod loading;
 mod looking;

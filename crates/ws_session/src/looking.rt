@@ -2,13 +2,13 @@
 
 use crate::commands::Turn;
 use crate::leaving::Done;
-use crate::sending::sent;
+use crate::sending::{exported, sent};
 use crate::sessions::{Speaker, context_of};
 use ws_command::Look;
 use ws_dump::dump;
 use ws_fault::Refusal;
 use ws_look::look as looked;
-use ws_out::{export, export_word, graph, page};
+use ws_out::{export, graph, page};
 use ws_reply::Reply;
 use ws_space::Space;
 
@@ -41,8 +41,8 @@ impl Speaker {
             Look::Page(to) => sent(rt, settings, to, "page", page(alloc, space, &context)?),
             Look::Dump(to) => sent(rt, settings, to, "session", dump(alloc, space)?),
             Look::Export(asked) => {
-                let kind = export_word(asked);
-                sent(rt, settings, &asked.to, kind, export(alloc, space, asked)?)
+                let lines = export(alloc, space, asked)?;
+                exported(rt, settings, asked, lines)
             }
             _ => looked(alloc, space, &mut self.shown, &context, look),
         }

@@ -1,4 +1,4 @@
-//! The file of a session: opened, read on, and let go of.
+//! The file of a session: opened, read on and closed.
 
 use crate::sessions::{Session, Texts};
 use std::alloc::{AllocError, Global};
@@ -8,12 +8,18 @@ use ws_log::{Access, Fault, Opened, Reopened, RestingLog, open, reopen};
 use ws_space::{Opening, Point, Space};
 
 impl Session {
-    /// Locks the file and reads what is new; false if there is none. What was read is in memory then, and the log in hand.
-    pub(crate) fn open(&mut self, rt: &HostRuntime, access: Access) -> Result<bool, Refusal> {
+    /// Locks the file and reads what is new; false if there is none. What was read is in memory then, and the log in hand. If
+    /// neither a line that may come nor this one tells the log, its lines need not be kept.
+    pub(crate) fn open(
+        &mut self,
+        rt: &HostRuntime,
+        access: Access,
+        tells_log: bool,
+    ) -> Result<bool, Refusal> {
         let alloc = rt.alloc();
         match self.read_on(rt, access) {
             Ok(()) => {
-                self.build(alloc)?;
+                self.build(alloc, tells_log)?;
                 Ok(true)
             }
             Err(Fault::Absent) => {
@@ -64,8 +70,8 @@ impl Session {
     }
 
     // The workspace of all texts that were read.
-    fn build(&mut self, alloc: Global) -> Result<(), Refusal> {
-        let fault = match self.read_texts(alloc) {
+    fn build(&mut self, alloc: Global, tells_log: bool) -> Result<(), Refusal> {
+        let fault = match self.read_texts(alloc, tells_log) {
             Ok(()) => return Ok(()),
             Err(fault) => fault,
         };
@@ -77,19 +83,20 @@ impl Session {
         Err(refusal)
     }
 
-    fn read_texts(&mut self, alloc: Global) -> Result<(), Opening> {
+    fn read_texts(&mut self, alloc: Global, tells_log: bool) -> Result<(), Opening> {
         let texts = self.file.texts.as_slice();
         if let Some(space) = &mut self.space {
             return read_new(alloc, space, texts);
         }
-        let space = Space::open(alloc, texts)?;
+        let keeps_lines = tells_log || self.speaker.settings.stays;
+        let space = Space::open(alloc, texts, keeps_lines)?;
         drop(mem::replace(&mut self.space, Some(space)));
         Ok(())
     }
 
     /// Whether something waits in the file; also if it cannot be read.
     pub fn waits(&mut self, rt: &HostRuntime) -> bool {
-        let Ok(true) = self.open(rt, Access::Read) else {
+        let Ok(true) = self.open(rt, Access::Read, true) else {
             return true;
         };
         let waits = match &self.space {

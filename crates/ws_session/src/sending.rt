@@ -1,15 +1,18 @@
-//! A text that is told, or written to a file.
+//! A text that is told, or written to a file; a database that is made of one.
 
 use crate::failing::{cannot, refused};
 use crate::sessions::{Settings, called};
 use def_memory::Memory;
 use std::alloc::{AllocError, Global};
-use std::fs;
 use std::os::unix::fs::MetadataExt;
+use std::{fs, io};
+use ws_command::Export;
 use ws_fault::{Refusal, Status};
 use ws_json::Object;
+use ws_out::export_word;
 use ws_print::{Lines, Text, add_escaped};
 use ws_reply::{Form, Kind, Reply};
+use ws_sqlite::write_database;
 
 /// Writes the lines to the file, if there is one, and tells that; or tells them.
 pub(crate) fn sent(
@@ -21,23 +24,45 @@ pub(crate) fn sent(
 ) -> Result<Reply, Refusal> {
     let alloc = rt.alloc();
     match to {
-        Some(path) if is_workspace(rt, settings, path.as_str()) => {
-            let name = called(settings, path.as_str());
-            let words = format!(in alloc; "cannot write {name}: it is the workspace");
-            Err(refused(alloc, Status::NoOutput, words))
-        }
         Some(path) => {
-            let text = joined(alloc, lines.as_slice())?;
-            match fs::write(rt, path.as_str(), text.as_str()) {
-                Ok(()) => Ok(wrote(alloc, settings.form, path.as_str())?),
-                Err(error) => {
-                    let name = called(settings, path.as_str());
-                    Err(cannot(alloc, Status::NoOutput, "write", name, &error))
-                }
-            }
+            let text = text_for(rt, settings, path.as_str(), lines.as_slice())?;
+            let done = fs::write(rt, path.as_str(), text.as_str());
+            wrote(alloc, settings, path.as_str(), done)
         }
         None => Ok(told(alloc, settings.form, kind, lines)?),
     }
+}
+
+/// Makes a database of the statements in the file of `--sqlite`, and tells that; other forms are sent.
+pub(crate) fn exported(
+    rt: &HostRuntime,
+    settings: &Settings,
+    asked: &Export,
+    lines: Vec<String>,
+) -> Result<Reply, Refusal> {
+    match &asked.sqlite {
+        Some(path) => {
+            let text = text_for(rt, settings, path.as_str(), lines.as_slice())?;
+            let done = write_database(rt, path.as_str(), text.as_str());
+            wrote(rt.alloc(), settings, path.as_str(), done)
+        }
+        None => sent(rt, settings, &asked.to, export_word(asked), lines),
+    }
+}
+
+// The text of the lines for the file, which is not to be the workspace.
+fn text_for(
+    rt: &HostRuntime,
+    settings: &Settings,
+    path: &str,
+    lines: &[String],
+) -> Result<String, Refusal> {
+    if is_workspace(rt, settings, path) {
+        let name = called(settings, path);
+        let words = format!(in rt.alloc(); "cannot write {name}: it is the workspace");
+        return Err(refused(rt.alloc(), Status::NoOutput, words));
+    }
+    Ok(joined(rt.alloc(), lines)?)
 }
 
 // Whether the path leads to the file of the workspace, in whatever words.
@@ -72,7 +97,23 @@ fn told(alloc: Global, form: Form, kind: &str, lines: Vec<String>) -> Result<Rep
     Ok(one(alloc, kind, "text", text.as_str())?)
 }
 
-fn wrote(alloc: Global, form: Form, path: &str) -> Result<Reply, Memory> {
+// That the file is written, or why it is not.
+fn wrote(
+    alloc: Global,
+    settings: &Settings,
+    path: &str,
+    done: io::Result<()>,
+) -> Result<Reply, Refusal> {
+    match done {
+        Ok(()) => Ok(file_told(alloc, settings.form, path)?),
+        Err(error) => {
+            let name = called(settings, path);
+            Err(cannot(alloc, Status::NoOutput, "write", name, &error))
+        }
+    }
+}
+
+fn file_told(alloc: Global, form: Form, path: &str) -> Result<Reply, Memory> {
     if form == Form::Json {
         return Ok(one(alloc, "wrote", "file", path)?);
     }

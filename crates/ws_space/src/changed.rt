@@ -36,12 +36,21 @@ impl Changed {
     }
 
     fn add_step(&mut self, step: &Step) -> Result<(), Memory> {
-        for tuple in step.note.deleted.as_slice() {
+        self.add_deleted(step.note.deleted.as_slice())?;
+        self.add_put(step.note.puts.as_slice())
+    }
+
+    fn add_deleted(&mut self, tuples: &[Tuple]) -> Result<(), Memory> {
+        for tuple in tuples {
             if is_seen(tuple) {
                 self.writes.push(Write::Delete(tuple.share()?))?;
             }
         }
-        for tuple in step.note.puts.as_slice() {
+        Ok(())
+    }
+
+    fn add_put(&mut self, tuples: &[Tuple]) -> Result<(), Memory> {
+        for tuple in tuples {
             if is_seen(tuple) {
                 self.writes.push(Write::Insert(tuple.share()?))?;
             }
@@ -56,65 +65,62 @@ impl Changed {
     }
 
     /// The numbers of the relations whose tuples are others now, rising. It is refused only for want of memory.
-    pub fn tables(&self, alloc: Global) -> Result<Vec<u32>, Memory> {
-        let mut tables = BTreeSet::new(alloc);
-        for table in &self.tables {
-            add(&mut tables, *table)?;
-        }
-        self.add_written(alloc, &mut tables)?;
+    pub fn tables(&mut self, alloc: Global) -> Result<Vec<u32>, Memory> {
+        self.add_written(alloc)?;
         let mut numbers = Vec::new(alloc);
-        for table in &tables {
+        for table in &self.tables {
             numbers.push(u32::from(*table))?;
         }
         Ok(numbers)
     }
 
-    // Adds the relations that the writes changed. If tuples of one only came, or only went, it did change.
-    fn add_written(&self, alloc: Global, tables: &mut BTreeSet<u16>) -> Result<(), Memory> {
-        let mut came = BTreeSet::new(alloc);
-        let mut went = BTreeSet::new(alloc);
-        for write in &self.writes {
-            match write {
-                Write::Insert(tuple) => add(&mut came, tuple.relation)?,
-                Write::Delete(tuple) => add(&mut went, tuple.relation)?,
-            }
+    // Adds the relations that the writes changed.
+    fn add_written(&mut self, alloc: Global) -> Result<(), Memory> {
+        if only_come_or_go(alloc, self.writes.as_slice())? {
+            return add_each(&mut self.tables, self.writes.as_slice());
         }
-        for relation in &came {
-            if !went.contains(relation) || self.is_other(alloc, *relation)? {
-                add(tables, *relation)?;
-            }
-        }
-        for relation in &went {
-            if !came.contains(relation) {
-                add(tables, *relation)?;
-            }
-        }
-        Ok(())
+        add_touched(alloc, &mut self.tables, self.writes.as_slice())
     }
+}
 
-    // Whether the relation's tuples are others after the writes.
-    fn is_other(&self, alloc: Global, relation: u16) -> Result<bool, Memory> {
-        let mut writes = Vec::new(alloc);
-        for write in &self.writes {
-            match write {
-                Write::Insert(tuple) if tuple.relation == relation => {
-                    writes.push(Write::Insert(tuple.share()?))?;
-                }
-                Write::Delete(tuple) if tuple.relation == relation => {
-                    writes.push(Write::Delete(tuple.share()?))?;
-                }
-                _ => {}
-            }
+// Whether of each relation tuples only came or only went, so that each write changed its relation for good.
+fn only_come_or_go(alloc: Global, writes: &[Write]) -> Result<bool, Memory> {
+    let mut came = BTreeSet::new(alloc);
+    let mut went = BTreeSet::new(alloc);
+    for write in writes {
+        match write {
+            Write::Insert(tuple) => add(&mut came, tuple.relation)?,
+            Write::Delete(tuple) => add(&mut went, tuple.relation)?,
         }
-        let mut touched = Touched::new(alloc);
-        touched.made(writes.as_slice())?;
-        Ok(
-            touched
-                .tuples
-                .iter()
-                .any(|(_, touch)| touch.was != touch.is),
-        )
     }
+    for relation in &came {
+        if went.contains(relation) {
+            return Ok(false);
+        }
+    }
+    Ok(true)
+}
+
+fn add_each(tables: &mut BTreeSet<u16>, writes: &[Write]) -> Result<(), Memory> {
+    for write in writes {
+        match write {
+            Write::Insert(tuple) => add(tables, tuple.relation)?,
+            Write::Delete(tuple) => add(tables, tuple.relation)?,
+        }
+    }
+    Ok(())
+}
+
+// Adds the relations of the tuples that are there after the writes and were not before, or the other way round.
+fn add_touched(alloc: Global, tables: &mut BTreeSet<u16>, writes: &[Write]) -> Result<(), Memory> {
+    let mut touched = Touched::new(alloc);
+    touched.made(writes)?;
+    for (tuple, touch) in &touched.tuples {
+        if touch.was != touch.is {
+            add(tables, tuple.relation)?;
+        }
+    }
+    Ok(())
 }
 
 // Whether the tuple is of a relation that is seen.

@@ -2,6 +2,7 @@
 
 use base_types::Memory;
 use std::alloc::Global;
+use ws_command::Pattern;
 use ws_written::{Atom, Fact, Rule, Term, Value};
 
 /// A copy of a value. It is refused only for want of memory.
@@ -25,6 +26,21 @@ pub fn copy_fact(alloc: Global, fact: &Fact) -> Result<Fact, Memory> {
     })
 }
 
+/// The tuple that a pattern is; None if a `_` stands in it. It is refused only for want of memory.
+pub fn plain_fact(alloc: Global, pattern: &Pattern) -> Result<Option<Fact>, Memory> {
+    let mut values = Vec::new(alloc);
+    for value in &pattern.values {
+        match value {
+            Some(value) => values.push(copy_value(alloc, value)?)?,
+            None => return Ok(None),
+        }
+    }
+    Ok(Some(Fact {
+        relation: pattern.relation,
+        values,
+    }))
+}
+
 /// A copy of a mapping. It is refused only for want of memory.
 pub fn copy_rule(alloc: Global, rule: &Rule) -> Result<Rule, Memory> {
     Ok(Rule {
@@ -32,6 +48,15 @@ pub fn copy_rule(alloc: Global, rule: &Rule) -> Result<Rule, Memory> {
         left: copy_atoms(alloc, rule.left.as_slice())?,
         right: copy_atoms(alloc, rule.right.as_slice())?,
     })
+}
+
+/// Copies of mappings. It is refused only for want of memory.
+pub(crate) fn copy_rules(alloc: Global, rules: &[Rule]) -> Result<Vec<Rule>, Memory> {
+    let mut copies = Vec::new(alloc);
+    for rule in rules {
+        copies.push(copy_rule(alloc, rule)?)?;
+    }
+    Ok(copies)
 }
 
 fn copy_atoms(alloc: Global, atoms: &[Atom]) -> Result<Vec<Atom>, Memory> {

@@ -5,6 +5,7 @@ use crate::sources::number_of;
 use crate::spaces::Space;
 use base_types::Memory;
 use std::alloc::Global;
+use ws_grammar::place_of;
 use ws_written::{Line, Relation, Rule};
 
 impl Space {
@@ -18,11 +19,7 @@ impl Space {
     }
 
     fn declare_relation(&mut self, relation: Relation) -> Result<(), Memory> {
-        let place = self
-            .relations
-            .iter()
-            .position(|r| r.name.as_str() == relation.name.as_str());
-        if let Some(place) = place {
+        if let Some(place) = place_of(self.relations.as_slice(), relation.name.as_str()) {
             if let Some(old) = self.relations.get_mut(place) {
                 *old = relation;
                 return Ok(());

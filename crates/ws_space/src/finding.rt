@@ -142,15 +142,12 @@ fn first_column(columns: &[Option<Value>]) -> Option<Column<'_>> {
 }
 
 fn fits(columns: &[Option<Value>], tuple: &Tuple) -> bool {
-    columns
-        .iter()
-        .zip(tuple.values.as_slice().iter())
-        .all(|(column, value)| is_value(column, value))
-}
-
-fn is_value(column: &Option<Value>, value: &Value) -> bool {
-    match column {
-        Some(wanted) => wanted == value,
-        None => true,
+    for (place, column) in columns.iter().enumerate() {
+        if let (Some(wanted), Some(value)) = (column, tuple.values.get(place)) {
+            if wanted != value {
+                return false;
+            }
+        }
     }
+    true
 }

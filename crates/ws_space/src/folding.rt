@@ -8,7 +8,7 @@ use crate::spelling::said_update;
 use crate::texts::{string_of, text_of};
 use base_types::{Choice, Mapping, Memory, Null, TupleList, Value};
 use std::alloc::Global;
-use ws_lines::{Given, Source};
+use ws_lines::{Given, Source, Update};
 use ws_names::{Cause, Place};
 use ws_run::fixing_mapping;
 use ws_state::{Head as Numbered, HeadWaiting};
@@ -96,7 +96,11 @@ fn add_rules(head: &mut Head, rules: Vec<Rule>, count: usize) -> Result<(), Memo
     Ok(())
 }
 
-fn add_relations(copies: &mut Vec<Relation>, relations: &[Relation]) -> Result<(), Memory> {
+/// Adds copies of relations. It is refused only for want of memory.
+pub(crate) fn add_relations(
+    copies: &mut Vec<Relation>,
+    relations: &[Relation],
+) -> Result<(), Memory> {
     for relation in relations {
         copies.push(relation.clone()?)?;
     }
@@ -130,28 +134,44 @@ fn wait_said(
     rules: &[Rule],
     waiting: &HeadWaiting,
 ) -> Result<Waiting, Memory> {
-    let update = &waiting.update;
+    Ok(Waiting {
+        stamp: stamp_said(alloc, &waiting.update)?,
+        drawn: all_drawn(alloc, head, rules, waiting.places.as_slice())?,
+        answers: answers_said(alloc, rules, waiting.answers.as_slice())?,
+        update: NumberedUpdate {
+            number: waiting.update.number,
+            steps: waiting.update.steps,
+            update: said_update(alloc, rules, &waiting.update)?,
+        },
+    })
+}
+
+fn stamp_said(alloc: Global, update: &Update) -> Result<Stamp, Memory> {
+    Ok(Stamp {
+        time: string_of(alloc, update.time.as_slice())?,
+        curator: string_of(alloc, update.curator.as_slice())?,
+    })
+}
+
+fn all_drawn(
+    alloc: Global,
+    head: &Numbered,
+    rules: &[Rule],
+    places: &[Place],
+) -> Result<Vec<Drawn>, Memory> {
     let mut drawn = Vec::new(alloc);
-    for place in waiting.places.as_slice() {
+    for place in places {
         drawn.push(drawn_said(alloc, head, rules, place)?)?;
     }
-    let mut answers = Vec::new(alloc);
-    for given in waiting.answers.as_slice() {
-        answers.push(answer_said(alloc, rules, given)?)?;
+    Ok(drawn)
+}
+
+fn answers_said(alloc: Global, rules: &[Rule], answers: &[Given]) -> Result<Vec<Answer>, Memory> {
+    let mut said = Vec::new(alloc);
+    for given in answers {
+        said.push(answer_said(alloc, rules, given)?)?;
     }
-    Ok(Waiting {
-        stamp: Stamp {
-            time: string_of(alloc, update.time.as_slice())?,
-            curator: string_of(alloc, update.curator.as_slice())?,
-        },
-        update: NumberedUpdate {
-            number: update.number,
-            steps: update.steps,
-            update: said_update(alloc, rules, update)?,
-        },
-        drawn,
-        answers,
-    })
+    Ok(said)
 }
 
 fn drawn_said(

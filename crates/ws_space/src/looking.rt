@@ -8,7 +8,7 @@ use crate::texts::text_of;
 use base_types::Memory;
 use std::alloc::Global;
 use ws_lines::{Given, Update as Numbered};
-use ws_print::{Text, add_update};
+use ws_print::{Text, add_rule, add_update};
 use ws_run::Reason;
 use ws_written::{Answer, Rule, Update};
 
@@ -35,6 +35,15 @@ impl Space {
     /// The mapping of a number; None if there is none.
     pub fn rule(&self, mapping: u16) -> Option<&Rule> {
         self.rules.get(usize::from(mapping))
+    }
+
+    /// A mapping as it is printed; empty if there is none. It is refused only for want of memory.
+    pub fn rule_text(&self, alloc: Global, mapping: u16) -> Result<String, Memory> {
+        let mut text = Text::new(alloc);
+        if let Some(rule) = self.rule(mapping) {
+            add_rule(&mut text, self.relations.as_slice(), rule);
+        }
+        Ok(text.done()?)
     }
 
     /// The name of a mapping by its number; empty if there is none.
@@ -74,6 +83,23 @@ impl Space {
             add_update(&mut text, self.relations.as_slice(), &update);
         }
         Ok(text.done()?)
+    }
+
+    /// The number of the update that is held at this place.
+    pub fn number_at(&self, held: usize) -> Option<u32> {
+        Some(self.state.held().get(held)?.update.number)
+    }
+
+    /// The numbers of the updates that wait, rising. It is refused only for want of memory.
+    pub fn waiting_numbers(&self, alloc: Global) -> Result<Vec<u32>, Memory> {
+        let mut numbers = Vec::new(alloc);
+        for waiting in self.state.waiting().as_slice() {
+            if let Some(number) = self.number_at(waiting.held) {
+                numbers.push(number)?;
+            }
+        }
+        numbers.sort_unstable();
+        Ok(numbers)
     }
 
     /// Who said an update; empty if it is not there.

@@ -8,6 +8,7 @@ use std::fmt::Write;
 use ws_fault::{Fault, Status};
 use ws_print::{Text, add_unknown, add_value};
 use ws_run::{Step, follow};
+use ws_state::Standing;
 use ws_written::Unknown;
 
 impl Space {
@@ -38,15 +39,27 @@ impl Space {
         };
         let mut now = Value::Null(null);
         for standing in self.state.order().as_slice() {
-            for step in standing.steps.as_slice() {
-                let next = follow(alloc, one(step), &now)?;
-                if next != now {
-                    self.add_taken(alloc, &mut fate, standing.held, &next)?;
-                    now = next;
-                }
-            }
+            self.follow_update(alloc, &mut fate, &mut now, standing)?;
         }
         Ok(fate.done()?)
+    }
+
+    // What the steps of an update took the value to be.
+    fn follow_update(
+        &self,
+        alloc: Global,
+        fate: &mut Text,
+        now: &mut Value,
+        standing: &Standing,
+    ) -> Result<(), Memory> {
+        for step in standing.steps.as_slice() {
+            let next = follow(alloc, one(step), now)?;
+            if next != *now {
+                self.add_taken(alloc, fate, standing.held, &next)?;
+                *now = next;
+            }
+        }
+        Ok(())
     }
 
     fn add_taken(
@@ -56,10 +69,7 @@ impl Space {
         held: usize,
         value: &Value,
     ) -> Result<(), Memory> {
-        let number = match self.state.held().get(held) {
-            Some(held) => held.update.number,
-            None => 0,
-        };
+        let number = self.number_at(held).unwrap_or(0);
         let what = if fate.is_empty() { "it" } else { "that" };
         if !fate.is_empty() {
             fate.push_str(", ");

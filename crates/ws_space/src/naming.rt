@@ -23,6 +23,24 @@ pub fn null_of(unknown: Unknown) -> Null {
     }
 }
 
+/// Whether the value is an unknown.
+pub fn is_unknown(value: &Value) -> bool {
+    match value {
+        Value::Null(_) => true,
+        _ => false,
+    }
+}
+
+/// Whether an unknown stands in the tuple.
+pub fn has_unknown(tuple: &Tuple) -> bool {
+    for value in tuple.values.as_slice() {
+        if is_unknown(value) {
+            return true;
+        }
+    }
+    false
+}
+
 /// A value by names, as it is said. It is refused only for want of memory.
 pub(crate) fn said_value(alloc: Global, value: &Value) -> Result<Said, Memory> {
     Ok(match value {

@@ -6,9 +6,9 @@ use crate::lines::apart;
 use crate::spaces::Space;
 use base_types::Memory;
 use std::alloc::{AllocError, AllocFailed, Global};
-use ws_grammar::{read_head, read_record};
+use ws_grammar::{read_head, read_line, read_stamp};
 use ws_state::State;
-use ws_written::{Head, Record, Rule, Stamp};
+use ws_written::{Head, Record, Rule, SaidLine, Stamp};
 
 /// Why texts cannot be opened: want of memory, or the text at this place among them is no head or record.
 #[derive(Clone, Copy, Debug, PartialEq, Eq)]
@@ -36,12 +36,14 @@ impl<T: Drop> From<AllocFailed<T>> for Opening {
 }
 
 impl Space {
-    /// The workspace of a file whose head is the first text, and whose records are the others.
-    pub fn open(alloc: Global, texts: &[Vec<u8>]) -> Result<Space, Opening> {
+    /// The workspace of a file whose head is the first text, and whose records are the others. If the log is not to be told,
+    /// their lines need not be kept.
+    pub fn open(alloc: Global, texts: &[Vec<u8>], keeps_lines: bool) -> Result<Space, Opening> {
         let Some((head, records)) = texts.split_first() else {
             return Err(Opening::Unread(0));
         };
         let mut space = Space::of_head(alloc, head.as_slice())?;
+        space.keeps_lines = keeps_lines;
         match space.replay_all(alloc, records) {
             Ok(()) => Ok(space),
             Err(fault) => {
@@ -99,28 +101,48 @@ impl Space {
                 curator: String::new(alloc),
             },
             changed: Changed::new(alloc),
+            keeps_lines: true,
         }
     }
 
     // Whether the text is a record; what it says is done then.
     fn replayed(&mut self, alloc: Global, text: &[u8]) -> Result<bool, Memory> {
-        let Some(record) = read_record(alloc, self.relations.as_slice(), text)? else {
+        let Some((stamp, text)) = read_stamp(alloc, text)? else {
             return Ok(false);
         };
-        if !self.replay_lines(alloc, &record)? {
+        self.say_as(alloc, stamp.time.as_str(), stamp.curator.as_str())?;
+        let Some(lines) = self.replay_lines(alloc, text)? else {
             return Ok(false);
-        }
-        self.recorded(alloc, record)?;
+        };
+        self.recorded(alloc, Record { stamp, lines })?;
         Ok(true)
     }
 
-    fn replay_lines(&mut self, alloc: Global, record: &Record) -> Result<bool, Memory> {
-        let stamp = &record.stamp;
-        self.say_as(alloc, stamp.time.as_str(), stamp.curator.as_str())?;
-        for said in &record.lines {
-            if self.try_take(alloc, &said.line)?.is_none() {
-                return Ok(false);
+    // Does what the lines say, one after the other, if they can be read, and gives those that are kept.
+    fn replay_lines(&mut self, alloc: Global, text: &str) -> Result<Option<Vec<SaidLine>>, Memory> {
+        let mut lines = Vec::new(alloc);
+        for line in text.split('\n') {
+            if !self.replay_line(alloc, line, &mut lines)? {
+                return Ok(None);
             }
+        }
+        Ok(Some(lines))
+    }
+
+    fn replay_line(
+        &mut self,
+        alloc: Global,
+        line: &str,
+        lines: &mut Vec<SaidLine>,
+    ) -> Result<bool, Memory> {
+        let Some(said) = read_line(alloc, self.relations.as_slice(), line)? else {
+            return Ok(false);
+        };
+        if self.try_take(alloc, &said.line)?.is_none() {
+            return Ok(false);
+        }
+        if self.keeps_lines {
+            lines.push(said)?;
         }
         Ok(true)
     }
@@ -145,11 +167,14 @@ fn begun(alloc: Global, head: &Head) -> Result<(Vec<Rule>, State), Opening> {
 // The mappings of the head by number: those in force, and then those that are proposed.
 fn rules_of(alloc: Global, head: &Head) -> Result<Vec<Rule>, Memory> {
     let mut rules = Vec::new(alloc);
-    for rule in &head.in_force {
-        rules.push(apart(alloc, rule)?)?;
-    }
-    for rule in &head.proposed {
-        rules.push(apart(alloc, rule)?)?;
-    }
+    add_rules(alloc, &mut rules, head.in_force.as_slice())?;
+    add_rules(alloc, &mut rules, head.proposed.as_slice())?;
     Ok(rules)
+}
+
+fn add_rules(alloc: Global, rules: &mut Vec<Rule>, said: &[Rule]) -> Result<(), Memory> {
+    for rule in said {
+        rules.push(apart(alloc, rule)?)?;
+    }
+    Ok(())
 }

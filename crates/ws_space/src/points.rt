@@ -1,7 +1,8 @@
 //! A workspace as it was, to go back to.
 
 use crate::changed::Changed;
-use crate::copies::copy_rule;
+use crate::copies::copy_rules;
+use crate::folding::add_relations;
 use crate::spaces::Space;
 use base_types::Memory;
 use std::alloc::Global;
@@ -20,17 +21,11 @@ impl Space {
     /// The workspace as it is now, each line being recorded. It is refused only for want of memory.
     pub fn point(&self, alloc: Global) -> Result<Point, Memory> {
         let mut relations = Vec::new(alloc);
-        for relation in &self.relations {
-            relations.push(relation.clone()?)?;
-        }
-        let mut rules = Vec::new(alloc);
-        for rule in &self.rules {
-            rules.push(copy_rule(alloc, rule)?)?;
-        }
+        add_relations(&mut relations, self.relations.as_slice())?;
         Ok(Point {
-            state: self.state.point(alloc)?,
             relations,
-            rules,
+            rules: copy_rules(alloc, self.rules.as_slice())?,
+            state: self.state.point(alloc)?,
         })
     }
 

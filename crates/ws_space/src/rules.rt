@@ -29,16 +29,20 @@ pub(crate) fn atoms_of(
 ) -> Result<AtomList, Memory> {
     let mut all = AtomList::new(alloc);
     for atom in atoms {
-        let mut terms = TermRow::new(alloc);
-        for term in &atom.terms {
-            terms.push(term_of(alloc, term, names)?)?;
-        }
         all.push(Atom {
             relation: small(atom.relation),
-            terms,
+            terms: terms_of(alloc, atom.terms.as_slice(), names)?,
         })?;
     }
     Ok(all)
+}
+
+fn terms_of(alloc: Global, terms: &[SaidTerm], names: &mut NameList) -> Result<TermRow, Memory> {
+    let mut row = TermRow::new(alloc);
+    for term in terms {
+        row.push(term_of(alloc, term, names)?)?;
+    }
+    Ok(row)
 }
 
 fn term_of(alloc: Global, term: &SaidTerm, names: &mut NameList) -> Result<Term, Memory> {

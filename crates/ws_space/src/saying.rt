@@ -21,8 +21,11 @@ impl Space {
         }
     }
 
-    // The same; None if the line names a mapping that is not there.
+    // The same; None if the line names a mapping that is not there, or says an update under a number that was given before.
     pub(crate) fn try_take(&mut self, alloc: Global, line: &Line) -> Result<Option<Told>, Memory> {
+        if self.is_given(line) {
+            return Ok(None);
+        }
         self.declare(alloc, line)?;
         let Some(meant) = line_of(alloc, self.rules.as_slice(), &self.stamp, line)? else {
             return Ok(None);
@@ -35,6 +38,14 @@ impl Space {
                 drop(told);
                 Err(memory)
             }
+        }
+    }
+
+    // Whether the line says an update under a number that was given before.
+    fn is_given(&self, line: &Line) -> bool {
+        match line {
+            Line::Update(update) => update.number <= self.state.last(),
+            _ => false,
         }
     }
 

@@ -9,8 +9,12 @@ use ws_written::Rule;
 
 /// The number of a mapping by its name; None if there is none.
 pub(crate) fn number_of(rules: &[Rule], name: &str) -> Option<u16> {
-    let place = rules.iter().position(|rule| rule.name.as_str() == name)?;
-    u16::try_from(place).ok()
+    for (place, rule) in rules.iter().enumerate() {
+        if rule.name.as_str() == name {
+            return u16::try_from(place).ok();
+        }
+    }
+    None
 }
 
 /// What is called so, if a mapping is: `_new`, `_fix_m`, or a mapping's name.

@@ -19,7 +19,8 @@ pub struct Recorded {
 /// A workspace: the state, the relations and mappings by the numbers that they have there, and the records behind the head.
 ///
 /// Of a mapping each `_` stands as the variable of its own that it is printed as. `created` is the stamp of the head, `first`
-/// the number of records before it, and `folded` the last update's number there.
+/// the number of records before it, and `folded` the last update's number there. Records that were read have no lines if the log
+/// is not to be told.
 #[derive(Drop)]
 pub struct Space {
     pub relations: Vec<Relation>,
@@ -33,6 +34,8 @@ pub struct Space {
     pub(crate) stamp: Stamp,
     // What lines did that are not recorded yet.
     pub(crate) changed: Changed,
+    // Whether the lines of records that are read are kept.
+    pub(crate) keeps_lines: bool,
 }
 
 impl Space {
@@ -51,6 +54,7 @@ impl Space {
                 curator: String::new(alloc),
             },
             changed: Changed::new(alloc),
+            keeps_lines: true,
         })
     }
 

@@ -68,15 +68,15 @@ fn spelled_all(
     facts: &[NewFact],
     news: &mut NameList,
 ) -> Result<SpelledTupleList, Memory> {
-    let mut all = SpelledTupleList::new(alloc);
+    let mut all = Vec::with_capacity(alloc, facts.len())?;
     for fact in facts {
         all.push(spelled(alloc, fact, news)?)?;
     }
-    Ok(all)
+    Ok(SpelledTupleList::from_vec(all))
 }
 
 fn spelled(alloc: Global, fact: &NewFact, news: &mut NameList) -> Result<SpelledTuple, Memory> {
-    let mut values = SpelledList::new(alloc);
+    let mut values = Vec::with_capacity(alloc, fact.values.len())?;
     for value in &fact.values {
         values.push(match value {
             NewValue::Known(known) => Spelled::Known(named_value(alloc, known)?),
@@ -88,16 +88,18 @@ fn spelled(alloc: Global, fact: &NewFact, news: &mut NameList) -> Result<Spelled
     }
     Ok(SpelledTuple {
         relation: small(fact.relation),
-        values,
+        values: SpelledList::from_vec(values),
     })
 }
 
 // The number of the new unknown that has this name.
 fn new_of(name: Name, news: &mut NameList) -> Result<u32, Memory> {
-    match news.as_slice().iter().position(|other| *other == name) {
-        Some(place) => Ok(u32::try_from(place.saturating_add(1)).unwrap_or(u32::MAX)),
-        None => another(name, news),
+    for (place, other) in news.as_slice().iter().enumerate() {
+        if *other == name {
+            return Ok(u32::try_from(place.saturating_add(1)).unwrap_or(u32::MAX));
+        }
     }
+    another(name, news)
 }
 
 // The number of one more new unknown.

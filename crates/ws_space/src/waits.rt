@@ -38,13 +38,13 @@ fn wait_of(
     mappings: &MappingList,
     waiting: &Waiting,
 ) -> Result<Option<HeadWaiting>, Memory> {
-    let Some(update) = update_of(alloc, rules, &waiting.stamp, &waiting.update)? else {
-        return Ok(None);
-    };
     let Some(places) = places_of(alloc, rules, mappings, waiting)? else {
         return Ok(None);
     };
     let Some(answers) = answers_of(alloc, rules, waiting.answers.as_slice())? else {
+        return Ok(None);
+    };
+    let Some(update) = update_of(alloc, rules, &waiting.stamp, &waiting.update)? else {
         return Ok(None);
     };
     Ok(Some(HeadWaiting {

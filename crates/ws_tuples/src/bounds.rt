@@ -5,12 +5,11 @@ use def_memory::Memory;
 use std::alloc::Global;
 use std::collections::BTreeSet;
 use ws_command::Bounds;
-use ws_done::{refuse, refuse_with};
 use ws_fault::Refusal;
 use ws_hint::known_fact;
 use ws_print::Lines;
 use ws_question::{AskedNow, count_text, fact_text, question_line};
-use ws_report::{MANY, moved_row};
+use ws_report::{MANY, moved_row, refuse, refuse_with};
 use ws_space::Space;
 use ws_state::{Effect, Moved};
 use ws_written::{Fact, Line, NewFact, Update};
@@ -44,6 +43,30 @@ impl Named {
         }
     }
 
+    fn add_all_going(
+        &mut self,
+        alloc: Global,
+        space: &Space,
+        facts: &[Fact],
+    ) -> Result<(), Memory> {
+        for fact in facts {
+            self.add_going(alloc, space, fact)?;
+        }
+        Ok(())
+    }
+
+    fn add_all_coming(
+        &mut self,
+        alloc: Global,
+        space: &Space,
+        facts: &[NewFact],
+    ) -> Result<(), Memory> {
+        for fact in facts {
+            self.add_coming(alloc, space, fact)?;
+        }
+        Ok(())
+    }
+
     fn has(&self, tuple: &Tuple) -> bool {
         self.going.contains(tuple) || self.coming.contains(tuple)
     }
@@ -58,16 +81,8 @@ fn named_by(alloc: Global, space: &Space, line: &Line) -> Result<Named, Memory> 
         return Ok(named);
     };
     match &numbered.update {
-        Update::Insert(facts) => {
-            for fact in facts.iter() {
-                named.add_coming(alloc, space, fact)?;
-            }
-        }
-        Update::Delete(facts) => {
-            for fact in facts.iter() {
-                named.add_going(alloc, space, fact)?;
-            }
-        }
+        Update::Insert(facts) => named.add_all_coming(alloc, space, facts.as_slice())?,
+        Update::Delete(facts) => named.add_all_going(alloc, space, facts.as_slice())?,
         Update::Change(old, new) => {
             named.add_going(alloc, space, old)?;
             named.add_coming(alloc, space, new)?;
@@ -117,28 +132,62 @@ pub(crate) fn check_bounds(
     Ok(())
 }
 
-fn add_texts(alloc: Global, space: &Space, texts: &mut Lines, moved: &Moved) {
-    if texts.len() < TOLD {
-        texts.made(fact_text(alloc, space, &moved.tuple));
+// What a line would change beyond what it may: how much, and the first of it in lines.
+#[derive(Drop)]
+struct Excess {
+    count: usize,
+    lines: Lines,
+}
+
+impl Excess {
+    fn none(alloc: Global) -> Excess {
+        Excess {
+            count: 0,
+            lines: Lines::new(alloc),
+        }
+    }
+
+    // A tuple more, which is told by itself.
+    fn add(&mut self, alloc: Global, space: &Space, moved: &Moved) {
+        self.count = self.count.saturating_add(1);
+        if self.lines.len() < TOLD {
+            self.lines.made(fact_text(alloc, space, &moved.tuple));
+        }
+    }
+
+    // A tuple more, which is told as one that goes.
+    fn add_row(&mut self, alloc: Global, space: &Space, moved: &Moved) {
+        self.count = self.count.saturating_add(1);
+        if self.lines.len() < MANY {
+            self.lines.made(moved_row(alloc, space, "-", moved, true));
+        }
+    }
+}
+
+// What goes and is not named.
+fn add_unnamed(alloc: Global, space: &Space, excess: &mut Excess, named: &Named, went: &[Moved]) {
+    for moved in went {
+        if !named.has(&moved.tuple) {
+            excess.add(alloc, space, moved);
+        }
+    }
+}
+
+// What comes by a mapping.
+fn add_made(alloc: Global, space: &Space, excess: &mut Excess, came: &[Moved]) {
+    for moved in came {
+        if moved.by.is_some() {
+            excess.add(alloc, space, moved);
+        }
     }
 }
 
 // Nothing goes that is not named, and nothing comes by a mapping.
 fn check_only(alloc: Global, space: &Space, named: &Named, effect: &Effect) -> Result<(), Refusal> {
-    let mut texts = Lines::new(alloc);
-    let mut count = 0usize;
-    for moved in effect.went.as_slice() {
-        if !named.has(&moved.tuple) {
-            count = count.saturating_add(1);
-            add_texts(alloc, space, &mut texts, moved);
-        }
-    }
-    for moved in effect.came.as_slice() {
-        if moved.by.is_some() {
-            count = count.saturating_add(1);
-            add_texts(alloc, space, &mut texts, moved);
-        }
-    }
+    let mut excess = Excess::none(alloc);
+    add_unnamed(alloc, space, &mut excess, named, effect.went.as_slice());
+    add_made(alloc, space, &mut excess, effect.came.as_slice());
+    let Excess { count, lines } = excess;
     if count == 0 {
         return Ok(());
     }
@@ -148,7 +197,7 @@ fn check_only(alloc: Global, space: &Space, named: &Named, effect: &Effect) -> R
         alloc,
         words.as_str(),
         "try it, or leave --only",
-        texts.done()?,
+        lines.done()?,
     )
 }
 
@@ -159,25 +208,32 @@ fn check_along(
     named: &Named,
     effect: &Effect,
 ) -> Result<(), Refusal> {
-    let mut rows = Vec::new(alloc);
-    let mut count = 0usize;
-    for moved in effect.went.as_slice() {
-        if named.going.contains(&moved.tuple) {
-            continue;
-        }
-        count = count.saturating_add(1);
-        if rows.len() < MANY {
-            rows.push(moved_row(alloc, space, "-", moved, true)?)?;
-        }
-    }
+    let Excess { count, lines } = gone_along(alloc, space, named, effect.went.as_slice());
     if count == 0 {
         return Ok(());
     }
+    let mut lines = lines;
     if MANY < count {
         let more = count.saturating_sub(MANY);
-        rows.push(format!(in alloc; ".. and {more} more")?)?;
+        lines.made(format!(in alloc; ".. and {more} more"));
     }
     let count = count_text(alloc, count, "tuple")?;
     let words = format!(in alloc; "{count} would go along that you do not name")?;
-    refuse_with(alloc, words.as_str(), "to let them go: --cascade", rows)
+    refuse_with(
+        alloc,
+        words.as_str(),
+        "to let them go: --cascade",
+        lines.done()?,
+    )
+}
+
+// What goes and is not named to go.
+fn gone_along(alloc: Global, space: &Space, named: &Named, went: &[Moved]) -> Excess {
+    let mut excess = Excess::none(alloc);
+    for moved in went {
+        if !named.going.contains(&moved.tuple) {
+            excess.add_row(alloc, space, moved);
+        }
+    }
+    excess
 }

@@ -8,11 +8,10 @@ use def_memory::Memory;
 use std::alloc::Global;
 use std::collections::BTreeSet;
 use ws_command::{Bounds, Pattern};
-use ws_done::Done;
 use ws_fault::{Refusal, Status};
 use ws_print::{Lines, Text, add_pattern};
 use ws_question::near_texts;
-use ws_report::{Note, Report, facts_text};
+use ws_report::{Done, Note, Report, facts_text};
 use ws_space::{Space, copy_fact};
 use ws_written::{Fact, Update};
 
@@ -57,30 +56,53 @@ fn absent_notes(alloc: Global, space: &Space, absent: &[Fact]) -> Result<Vec<Not
     Ok(notes)
 }
 
+// Whether a `_` stands in one of the patterns.
 fn has_any(patterns: &[Pattern]) -> bool {
-    patterns.iter().any(|pattern| pattern.values.iter().any(|value| value.is_none()))
+    for pattern in patterns {
+        for value in pattern.values.iter() {
+            if value.is_none() {
+                return true;
+            }
+        }
+    }
+    false
 }
 
 // The tuples for which the patterns stand, in order; each once if a `_` stands in one.
 fn facts_of(alloc: Global, space: &Space, patterns: &[Pattern]) -> Result<Vec<Fact>, Refusal> {
-    let each_once = has_any(patterns);
-    let mut seen: BTreeSet<Tuple> = BTreeSet::new(alloc);
     let mut facts = Vec::new(alloc);
     for pattern in patterns {
-        for fact in fitting_facts(alloc, space, pattern)? {
-            if !each_once || seen.insert(space.tuple(alloc, &fact)?)? {
-                facts.push(fact)?;
-            }
-        }
+        let mut fitting = fitting_facts(alloc, space, pattern)?;
+        facts.append(&mut fitting)?;
+    }
+    if has_any(patterns) {
+        return Ok(each_once(alloc, space, facts)?);
     }
     Ok(facts)
 }
 
-// Those of the tuples that are not there. It is refused if one names an unknown that is not there.
-fn absent_of(alloc: Global, space: &Space, facts: &[Fact]) -> Result<Vec<Fact>, Refusal> {
+// The tuples, each in its first place.
+fn each_once(alloc: Global, space: &Space, facts: Vec<Fact>) -> Result<Vec<Fact>, Memory> {
+    let mut seen: BTreeSet<Tuple> = BTreeSet::new(alloc);
+    let mut distinct = Vec::new(alloc);
+    for fact in facts {
+        if seen.insert(space.tuple(alloc, &fact)?)? {
+            distinct.push(fact)?;
+        }
+    }
+    Ok(distinct)
+}
+
+fn check_facts(alloc: Global, space: &Space, facts: &[Fact]) -> Result<(), Refusal> {
     for fact in facts {
         check_fact(alloc, space, fact)?;
     }
+    Ok(())
+}
+
+// Those of the tuples that are not there. It is refused if one names an unknown that is not there.
+fn absent_of(alloc: Global, space: &Space, facts: &[Fact]) -> Result<Vec<Fact>, Refusal> {
+    check_facts(alloc, space, facts)?;
     let mut absent = Vec::new(alloc);
     for fact in facts {
         if !is_there(alloc, space, fact)? {

@@ -1,27 +1,13 @@
 //! The tuples for which patterns stand.
 
 use crate::names::check_value;
+use base_types::Tuple;
 use def_memory::Memory;
 use std::alloc::Global;
 use ws_command::Pattern;
 use ws_fault::Refusal;
-use ws_space::{Space, copy_value};
+use ws_space::{Space, plain_fact};
 use ws_written::Fact;
-
-// The tuple, if no `_` stands in it.
-fn plain_fact(alloc: Global, pattern: &Pattern) -> Result<Option<Fact>, Memory> {
-    let mut values = Vec::new(alloc);
-    for value in pattern.values.iter() {
-        match value {
-            Some(known) => values.push(copy_value(alloc, known)?)?,
-            None => return Ok(None),
-        }
-    }
-    Ok(Some(Fact {
-        relation: pattern.relation,
-        values,
-    }))
-}
 
 /// The tuples for which a pattern stands, in order: a pattern without `_` for itself. It is refused if it has a `_` and names
 /// an unknown that is not there.
@@ -30,17 +16,28 @@ pub(crate) fn fitting_facts(
     space: &Space,
     pattern: &Pattern,
 ) -> Result<Vec<Fact>, Refusal> {
-    let mut facts = Vec::new(alloc);
     if let Some(fact) = plain_fact(alloc, pattern)? {
+        let mut facts = Vec::new(alloc);
         facts.push(fact)?;
         return Ok(facts);
     }
+    check_pattern(alloc, space, pattern)?;
+    let found = space.matching(alloc, pattern)?;
+    Ok(shown(alloc, space, found.as_slice())?)
+}
+
+fn check_pattern(alloc: Global, space: &Space, pattern: &Pattern) -> Result<(), Refusal> {
     for value in pattern.values.iter() {
         if let Some(known) = value {
             check_value(alloc, space, known)?;
         }
     }
-    for tuple in space.matching(alloc, pattern)?.iter() {
+    Ok(())
+}
+
+fn shown(alloc: Global, space: &Space, tuples: &[Tuple]) -> Result<Vec<Fact>, Memory> {
+    let mut facts = Vec::new(alloc);
+    for tuple in tuples {
         facts.push(space.shown(alloc, tuple)?)?;
     }
     Ok(facts)

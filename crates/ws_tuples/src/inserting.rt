@@ -5,10 +5,10 @@ use crate::single::single;
 use def_memory::Memory;
 use std::alloc::Global;
 use ws_command::Bounds;
-use ws_done::{Done, refuse};
 use ws_fault::Refusal;
 use ws_hint::known_fact;
 use ws_print::{Text, add_new_facts};
+use ws_report::{Done, refuse};
 use ws_space::Space;
 use ws_written::{NewFact, Update};
 

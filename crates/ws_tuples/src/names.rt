@@ -60,11 +60,14 @@ pub(crate) fn same_value(one: &Value, other: &Value) -> bool {
 
 /// Whether two tuples are the same.
 pub(crate) fn same_fact(one: &Fact, other: &Fact) -> bool {
-    one.relation == other.relation
-        && one.values.len() == other.values.len()
-        && one
-            .values
-            .iter()
-            .zip(other.values.iter())
-            .all(|(one, other)| same_value(one, other))
+    if one.relation != other.relation || one.values.len() != other.values.len() {
+        return false;
+    }
+    for (place, value) in one.values.iter().enumerate() {
+        match other.values.get(place) {
+            Some(other) if same_value(value, other) => {}
+            _ => return false,
+        }
+    }
+    true
 }

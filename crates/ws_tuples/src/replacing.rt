@@ -9,12 +9,11 @@ use crate::single::single;
 use def_memory::Memory;
 use std::alloc::Global;
 use ws_command::{Bounds, Pattern, Replacement};
-use ws_done::{Done, refuse, refuse_with};
 use ws_fault::Refusal;
 use ws_hint::known_fact;
 use ws_print::{Text, add_pattern, add_update};
 use ws_question::count_text;
-use ws_report::{joined, said_text};
+use ws_report::{Done, joined, refuse, refuse_with, said_text};
 use ws_space::{Space, copy_value};
 use ws_written::{Fact, NewFact, NewValue, Unknown, Update, Value};
 
@@ -120,10 +119,19 @@ fn one_fact(alloc: Global, space: &Space, pattern: &Pattern) -> Result<Fact, Ref
     refuse_with(alloc, words.as_str(), "", texts)
 }
 
+// Whether a `_` stands in it.
+fn keeps_some(new: &Replacement) -> bool {
+    for value in new.values.iter() {
+        if value.is_none() {
+            return true;
+        }
+    }
+    false
+}
+
 // The tuple that comes: `_` keeps what stands in the old one.
 fn replacement(alloc: Global, old: &Fact, new: &Replacement) -> Result<NewFact, Refusal> {
-    let keeps = new.values.iter().any(|value| value.is_none());
-    if keeps && old.relation != new.relation {
+    if old.relation != new.relation && keeps_some(new) {
         return refuse(alloc, "_ keeps a value of the same relation", "");
     }
     let mut values = Vec::new(alloc);

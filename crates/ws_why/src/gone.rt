@@ -4,13 +4,13 @@ use crate::steps::{Made, rewritten};
 use base_types::{Memory, Tuple};
 use run_note::Way;
 use std::alloc::Global;
-use ws_fault::{Refusal, Status};
+use ws_fault::{Fault, Refusal, Status};
 use ws_json::Object;
+use ws_lines::Source;
 use ws_print::{Lines, Text, add_fact};
 use ws_question::{inner_text, near_texts};
-use ws_reply::{Context, Reply};
-use ws_run::Taking;
-use ws_seen::{object_of, refused, seen_object, seen_text};
+use ws_reply::{Context, Reply, object_of, refused, seen_object, seen_text};
+use ws_run::{Step, Taking};
 use ws_space::Space;
 use ws_written::Fact;
 
@@ -33,12 +33,17 @@ pub(crate) fn gone(
     add_fact(&mut said, space.relations.as_slice(), fact);
     let said = said.done()?;
     let tuple = space.tuple(alloc, fact)?;
-    let Some(told) = last_taken(alloc, space, said.as_str(), &tuple)? else {
-        let words = format!(in alloc; "{said} is not there")?;
-        let hint = near_hint(alloc, space, fact)?;
-        return Err(Refusal::Fault(refused(alloc, words, hint)));
-    };
-    Ok(reply(alloc, space, context, said.as_str(), told)?)
+    match last_taken(alloc, space, said.as_str(), &tuple)? {
+        Some(told) => Ok(reply(alloc, space, context, said.as_str(), told)?),
+        None => Err(Refusal::Fault(never(alloc, space, fact, said.as_str())?)),
+    }
+}
+
+// No update took the tuple away.
+fn never(alloc: Global, space: &Space, fact: &Fact, said: &str) -> Result<Fault, Memory> {
+    let words = format!(in alloc; "{said} is not there")?;
+    let hint = near_hint(alloc, space, fact)?;
+    Ok(refused(alloc, words, hint))
 }
 
 fn near_hint(alloc: Global, space: &Space, fact: &Fact) -> Result<Option<String>, Memory> {
@@ -68,13 +73,24 @@ fn last_taken(
 ) -> Result<Option<Told>, Memory> {
     for standing in space.state.order().as_slice().iter().rev() {
         for step in standing.steps.as_slice().iter().rev() {
-            for taken in step.note.deleted.as_slice() {
-                if taken.relation == tuple.relation
-                    && space.state.names().tuple(alloc, taken)? == *tuple
-                {
-                    return Ok(Some(told_of(alloc, space, said, Made { standing, step }, taken)?));
-                }
+            if let Some(taken) = taken_by(alloc, space, step, tuple)? {
+                return Ok(Some(told_of(alloc, space, said, Made { standing, step }, taken)?));
             }
+        }
+    }
+    Ok(None)
+}
+
+// The tuple within that the step took away, if it is the tuple by its name.
+fn taken_by<'a>(
+    alloc: Global,
+    space: &Space,
+    step: &'a Step,
+    tuple: &Tuple,
+) -> Result<Option<&'a Tuple>, Memory> {
+    for taken in step.note.deleted.as_slice() {
+        if taken.relation == tuple.relation && space.state.names().tuple(alloc, taken)? == *tuple {
+            return Ok(Some(taken));
         }
     }
     Ok(None)
@@ -87,10 +103,7 @@ fn told_of(
     made: Made<'_>,
     taken: &Tuple,
 ) -> Result<Told, Memory> {
-    let number = match space.state.held().get(made.standing.held) {
-        Some(held) => held.update.number,
-        None => 0,
-    };
+    let number = space.number_at(made.standing.held).unwrap_or(0);
     let (how, what) = taking_words(alloc, space, made, taken)?;
     let curator = space.curator_of(number);
     let line = space.update_text(alloc, number)?;
@@ -105,25 +118,33 @@ fn taking_words(
     taken: &Tuple,
 ) -> Result<(&'static str, String), Memory> {
     match made.step.taking {
-        Taking::Named => Ok(("deleted", format!(in alloc; "was deleted")?)),
+        Taking::Named => Ok(("deleted", String::from_str(alloc, "was deleted")?)),
         Taking::Needed(source) => {
-            let mapping = space.source_mapping(source).unwrap_or(u16::MAX);
-            let name = space.mapping_name(mapping);
+            let name = source_name(space, source);
             Ok(("needed", format!(in alloc; "went by {name}")?))
         }
         Taking::Chosen(source) => {
-            let mapping = space.source_mapping(source).unwrap_or(u16::MAX);
-            let name = space.mapping_name(mapping);
+            let name = source_name(space, source);
             Ok(("chosen", format!(in alloc; "was chosen to go by {name}")?))
         }
         Taking::Became => {
-            let other = match &made.step.note.way {
-                Way::Rewrites(rewriting) => rewritten(alloc, rewriting, taken)?,
-                _ => taken.share()?,
-            };
-            let other = inner_text(alloc, space, &other)?;
+            let other = became(alloc, space, &made.step.note.way, taken)?;
             Ok(("became", format!(in alloc; "became {other}")?))
         }
+    }
+}
+
+fn source_name(space: &Space, source: Source) -> &str {
+    space.mapping_name(space.source_mapping(source).unwrap_or(u16::MAX))
+}
+
+// What the tuple became, as a command takes it.
+fn became(alloc: Global, space: &Space, way: &Way, taken: &Tuple) -> Result<String, Memory> {
+    match way {
+        Way::Rewrites(rewriting) => {
+            inner_text(alloc, space, &rewritten(alloc, rewriting, taken)?)
+        }
+        _ => inner_text(alloc, space, taken),
     }
 }
 
@@ -144,14 +165,10 @@ fn reply(
 
 fn object(alloc: Global, space: &Space, said: &str, told: &Told) -> Object {
     let mut object = object_of(alloc, "gone");
-    add_told(&mut object, space, said, told);
-    object
-}
-
-fn add_told(object: &mut Object, space: &Space, said: &str, told: &Told) {
     object.text("tuple", said);
     object.text("how", told.how);
     object.number("number", i64::from(told.number));
     object.text("curator", space.curator_of(told.number));
     object.text("words", told.words.as_str());
+    object
 }

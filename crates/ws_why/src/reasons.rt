@@ -56,76 +56,83 @@ pub(crate) fn reasons_for(
     tuple: &Tuple,
 ) -> Result<Vec<Reason>, Memory> {
     let steps = Steps::of(alloc, space)?;
-    let mut reasons = Vec::new(alloc);
-    let mut seen = BTreeSet::new(alloc);
-    let mut open = Vec::new(alloc);
-    open.push(Open {
-        tuple: tuple.share()?,
-        before: steps.count(),
-        depth: 0,
-    })?;
-    for _ in 0..u64::MAX {
-        let Some(next) = open.pop() else {
-            break;
-        };
-        explain(
-            alloc,
-            space,
-            &steps,
-            &mut seen,
-            &mut reasons,
-            &mut open,
-            next,
-        )?;
-    }
-    Ok(reasons)
+    let mut told = Told {
+        reasons: Vec::new(alloc),
+        open: Vec::new(alloc),
+        seen: BTreeSet::new(alloc),
+    };
+    told.add_open(tuple, steps.count(), 0)?;
+    told.explain_all(alloc, space, &steps)?;
+    Ok(told.reasons)
 }
 
-// Gives the reason for the tuple, and opens what it rests on, unless that was told above.
-fn explain(
-    alloc: Global,
-    space: &Space,
-    steps: &Steps<'_>,
-    seen: &mut BTreeSet<(Tuple, Option<usize>)>,
-    reasons: &mut Vec<Reason>,
-    open: &mut Vec<Open>,
-    next: Open,
-) -> Result<(), Memory> {
-    let place = steps.origin(&next.tuple, next.before);
-    let key = (next.tuple.share()?, place);
-    let again = seen.contains(&key);
-    seen.insert(key)?;
-    if WANT <= next.tuple.relation {
-        return Ok(());
-    }
-    let (how, number, rests) = how_of(alloc, space, steps, &next.tuple, place)?;
-    if !again {
-        open_all(open, rests.as_slice(), place.unwrap_or(0), next.depth)?;
-    }
-    reasons.push(Reason {
-        tuple: space.state.names().tuple(alloc, &next.tuple)?,
-        number,
-        how,
-        depth: next.depth,
-        again,
-    })?;
-    Ok(())
+// The reasons so far, the tuples that are to be explained, and those that were, each with the place of the step that put it.
+#[derive(Drop)]
+struct Told {
+    reasons: Vec<Reason>,
+    open: Vec<Open>,
+    seen: BTreeSet<(Tuple, Option<usize>)>,
 }
 
-fn open_all(
-    open: &mut Vec<Open>,
-    tuples: &[Tuple],
-    before: usize,
-    depth: usize,
-) -> Result<(), Memory> {
-    for tuple in tuples.iter().rev() {
-        open.push(Open {
+impl Told {
+    fn add_open(&mut self, tuple: &Tuple, before: usize, depth: usize) -> Result<(), Memory> {
+        self.open.push(Open {
             tuple: tuple.share()?,
             before,
-            depth: depth.saturating_add(1),
+            depth,
         })?;
+        Ok(())
     }
-    Ok(())
+
+    fn explain_all(
+        &mut self,
+        alloc: Global,
+        space: &Space,
+        steps: &Steps<'_>,
+    ) -> Result<(), Memory> {
+        for _ in 0..u64::MAX {
+            let Some(next) = self.open.pop() else {
+                break;
+            };
+            self.explain(alloc, space, steps, &next)?;
+        }
+        Ok(())
+    }
+
+    // Gives the reason for the tuple, and opens what it rests on, unless that was told above.
+    fn explain(
+        &mut self,
+        alloc: Global,
+        space: &Space,
+        steps: &Steps<'_>,
+        next: &Open,
+    ) -> Result<(), Memory> {
+        let place = steps.origin(&next.tuple, next.before);
+        let again = !self.seen.insert((next.tuple.share()?, place))?;
+        if WANT <= next.tuple.relation {
+            return Ok(());
+        }
+        let tuple = space.state.names().tuple(alloc, &next.tuple)?;
+        let (how, number, rests) = how_of(alloc, space, steps, &next.tuple, place)?;
+        self.reasons.push(Reason {
+            tuple,
+            number,
+            how,
+            depth: next.depth,
+            again,
+        })?;
+        if again {
+            return Ok(());
+        }
+        self.open_all(rests.as_slice(), place.unwrap_or(0), next.depth)
+    }
+
+    fn open_all(&mut self, tuples: &[Tuple], before: usize, depth: usize) -> Result<(), Memory> {
+        for tuple in tuples.iter().rev() {
+            self.add_open(tuple, before, depth.saturating_add(1))?;
+        }
+        Ok(())
+    }
 }
 
 // How the tuple came to be there, by which update, and the tuples within that it rests on.
@@ -140,10 +147,7 @@ fn how_of(
     let Some(made) = steps.all.get(place.unwrap_or(usize::MAX)) else {
         return Ok((How::Base, None, TupleList::new(alloc)));
     };
-    let number = match space.state.held().get(made.standing.held) {
-        Some(held) => Some(held.update.number),
-        None => None,
-    };
+    let number = space.number_at(made.standing.held);
     match origin_by(alloc, *made, tuple)? {
         Origin::Inserted => Ok((How::Inserted, number, TupleList::new(alloc))),
         Origin::Generated(source, image) => {

@@ -42,25 +42,35 @@ impl<'a> Steps<'a> {
     fn add(&mut self, alloc: Global, made: Made<'a>) -> Result<(), Memory> {
         let place = self.all.len();
         for tuple in made.step.note.puts.as_slice() {
-            match self.puts.get_mut(tuple) {
-                Some(places) => places.push(place)?,
-                None => {
-                    let mut places = Vec::new(alloc);
-                    places.push(place)?;
-                    if self.puts.insert(tuple.share()?, places).is_err() {
-                        return Err(Memory);
-                    }
-                }
-            }
+            self.put(alloc, tuple, place)?;
         }
         self.all.push(made)?;
         Ok(())
     }
 
+    // The step at a place put the tuple.
+    fn put(&mut self, alloc: Global, tuple: &Tuple, place: usize) -> Result<(), Memory> {
+        match self.puts.get_mut(tuple) {
+            Some(places) => places.push(place)?,
+            None => {
+                let mut places = Vec::new(alloc);
+                places.push(place)?;
+                if self.puts.insert(tuple.share()?, places).is_err() {
+                    return Err(Memory);
+                }
+            }
+        }
+        Ok(())
+    }
+
     /// The place of the last step before this one that put the tuple; None of a tuple of the base.
     pub(crate) fn origin(&self, tuple: &Tuple, before: usize) -> Option<usize> {
-        let places = self.puts.get(tuple)?;
-        places.iter().rev().find(|place| **place < before).copied()
+        for place in self.puts.get(tuple)?.iter().rev() {
+            if *place < before {
+                return Some(*place);
+            }
+        }
+        None
     }
 
     /// How many steps there are.

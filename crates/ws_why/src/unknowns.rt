@@ -2,16 +2,14 @@
 
 use base_types::{Mapping, Memory, Tuple, Value};
 use std::alloc::Global;
-use std::collections::BTreeSet;
 use ws_fault::{Refusal, Status as Code};
 use ws_json::Object;
 use ws_lines::Source;
 use ws_names::Cause;
 use ws_print::{Lines, Text, add_unknown};
 use ws_question::{fact_text, inner_text};
-use ws_reply::{Context, Reply};
+use ws_reply::{Context, Reply, object_of, seen_object, seen_text, text_items};
 use ws_run::fixing_mapping;
-use ws_seen::{object_of, seen_object, seen_text, text_items};
 use ws_space::Space;
 use ws_state::{Held, Status};
 use ws_written::Unknown;
@@ -29,36 +27,29 @@ pub fn why_unknown(
     let mut name = Text::new(alloc);
     add_unknown(&mut name, unknown);
     let name = name.done()?;
+    let texts = texts_with(alloc, space, &value)?;
     let words = words_of(alloc, space, name.as_str(), unknown)?;
-    let mut texts = Vec::new(alloc);
-    for tuple in standing_in(alloc, space, &value)?.iter() {
-        texts.push(inner_text(alloc, space, tuple)?)?;
-    }
     Ok(reply(alloc, context, name.as_str(), words, texts.as_slice())?)
 }
 
-// The tuples that the value stands in, in order.
-fn standing_in(alloc: Global, space: &Space, value: &Value) -> Result<BTreeSet<Tuple>, Memory> {
-    let mut found = BTreeSet::new(alloc);
+// The tuples that the value stands in, in order, as commands take them.
+fn texts_with(alloc: Global, space: &Space, value: &Value) -> Result<Vec<String>, Memory> {
+    let mut texts = Lines::new(alloc);
     for number in 0..space.relations.len() {
-        for tuple in space.rows(alloc, u32::try_from(number).unwrap_or(u32::MAX))? {
+        let rows = space.rows(alloc, u32::try_from(number).unwrap_or(u32::MAX))?;
+        for tuple in rows.iter() {
             if tuple.values.as_slice().contains(value) {
-                found.insert(tuple)?;
+                texts.made(inner_text(alloc, space, tuple));
             }
         }
     }
-    Ok(found)
+    Ok(texts.done()?)
 }
 
 fn words_of(alloc: Global, space: &Space, name: &str, unknown: Unknown) -> Result<String, Memory> {
     let number = unknown.update;
     let stands = space.state.status(number) == Some(Status::Stands);
-    let held = space
-        .state
-        .held()
-        .iter()
-        .find(|held| held.update.number == number);
-    let (Some(held), true) = (held, stands) else {
+    let (Some(held), true) = (held_of(space, number), stands) else {
         return Ok(format!(in alloc; "{name} is in the base")?);
     };
     let curator = space.curator_of(number);
@@ -68,13 +59,22 @@ fn words_of(alloc: Global, space: &Space, name: &str, unknown: Unknown) -> Resul
     }
 }
 
+fn held_of(space: &Space, number: u32) -> Option<&Held> {
+    for held in space.state.held() {
+        if held.update.number == number {
+            return Some(held);
+        }
+    }
+    None
+}
+
 fn cause_of(held: &Held, place: u32) -> Option<&Cause> {
-    let found = held
-        .places
-        .as_slice()
-        .iter()
-        .find(|other| other.number == place)?;
-    Some(&found.cause)
+    for other in held.places.as_slice() {
+        if other.number == place {
+            return Some(&other.cause);
+        }
+    }
+    None
 }
 
 // `?U.P is VARIABLE of MAPPING in N by C, since IMAGE`.
@@ -97,12 +97,16 @@ fn caused(
         "{name} is {variable} of {by} in {number} by {curator}"
     );
     if let Source::By(_) = cause.source {
-        for (place, tuple) in cause.image.as_slice().iter().enumerate() {
-            words.push_str(if place == 0 { ", since " } else { ", " });
-            words.made(fact_text(alloc, space, tuple));
-        }
+        add_image(alloc, space, &mut words, cause.image.as_slice());
     }
     Ok(words.done()?)
+}
+
+fn add_image(alloc: Global, space: &Space, words: &mut Text, image: &[Tuple]) {
+    for (place, tuple) in image.iter().enumerate() {
+        words.push_str(if place == 0 { ", since " } else { ", " });
+        words.made(fact_text(alloc, space, tuple));
+    }
 }
 
 // The name of the variable that the unknown was drawn for.
@@ -152,12 +156,8 @@ fn reply(
 
 fn object(alloc: Global, name: &str, words: &str, texts: &[String]) -> Object {
     let mut object = object_of(alloc, "unknown");
-    add_members(alloc, &mut object, name, words, texts);
-    object
-}
-
-fn add_members(alloc: Global, object: &mut Object, name: &str, words: &str, texts: &[String]) {
     object.text("unknown", name);
     object.text("words", words);
     object.items("tuples", text_items(alloc, texts));
+    object
 }

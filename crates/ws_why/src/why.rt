@@ -6,13 +6,12 @@ use crate::why_dot::dot_lines;
 use base_types::{Memory, Tuple};
 use std::alloc::Global;
 use ws_command::Pattern;
-use ws_fault::{Refusal, Status};
+use ws_fault::{Fault, Refusal, Status};
 use ws_json::{Items, Object};
 use ws_print::{Lines, Text, add_pattern};
 use ws_question::{count_text, fact_text, inner_text};
-use ws_reply::{Context, Reply};
-use ws_seen::{lines_text, number_of, object_of, refused, seen_object, seen_text};
-use ws_space::{Space, copy_value};
+use ws_reply::{Context, Reply, lines_text, number_of, object_of, refused, seen_object, seen_text};
+use ws_space::{Space, plain_fact};
 use ws_written::{Fact, Value};
 
 // How many of the tuples that fit are told.
@@ -28,51 +27,64 @@ pub fn why_fact(
     dot: bool,
 ) -> Result<Reply, Refusal> {
     let fact = one_fact(alloc, space, pattern)?;
-    let tuple = match space.within(alloc, &fact)? {
-        Some(tuple) if space.has(&tuple) => tuple,
-        _ => return gone(alloc, space, context, &fact),
-    };
-    let reasons = reasons_for(alloc, space, &tuple)?;
-    if dot {
-        return Ok(dot_reply(alloc, space, context, reasons.as_slice())?);
+    match space.within(alloc, &fact)? {
+        Some(tuple) if space.has(&tuple) => { Ok(explained(alloc, space, context, &tuple, dot)?) }
+        _ => gone(alloc, space, context, &fact),
     }
-    Ok(why_reply(alloc, space, context, reasons.as_slice())?)
+}
+
+// Why a tuple is there.
+fn explained(
+    alloc: Global,
+    space: &Space,
+    context: &Context<'_>,
+    tuple: &Tuple,
+    dot: bool,
+) -> Result<Reply, Memory> {
+    let reasons = reasons_for(alloc, space, tuple)?;
+    if dot {
+        return dot_reply(alloc, space, context, reasons.as_slice());
+    }
+    why_reply(alloc, space, context, reasons.as_slice())
 }
 
 // The tuple that is meant; if a `_` stands in it, the one that fits.
 fn one_fact(alloc: Global, space: &Space, pattern: &Pattern) -> Result<Fact, Refusal> {
-    if let Some(fact) = plain(alloc, pattern)? {
+    if let Some(fact) = plain_fact(alloc, pattern)? {
         return Ok(fact);
     }
     refuse_lost(alloc, space, pattern)?;
     let found = space.matching(alloc, pattern)?;
-    if let [tuple] = found.as_slice() {
-        return Ok(space.shown(alloc, tuple)?);
+    match found.as_slice() {
+        [tuple] => Ok(space.shown(alloc, tuple)?),
+        others => Err(Refusal::Fault(not_one(alloc, space, pattern, others)?)),
     }
+}
+
+// Not one tuple fits, but these, of which the first are told.
+fn not_one(
+    alloc: Global,
+    space: &Space,
+    pattern: &Pattern,
+    found: &[Tuple],
+) -> Result<Fault, Memory> {
     let mut said = Text::new(alloc);
     add_pattern(&mut said, space.relations.as_slice(), pattern);
     let said = said.done()?;
     let count = count_text(alloc, found.len(), "tuple")?;
-    let mut fault = refused(alloc, format!(in alloc; "{said} fits {count}")?, None);
-    for tuple in found.iter().take(TOLD) {
-        fault.more.push(inner_text(alloc, space, tuple)?)?;
-    }
-    Err(Refusal::Fault(fault))
+    let words = format!(in alloc; "{said} fits {count}")?;
+    let more = first_texts(alloc, space, found)?;
+    let mut fault = refused(alloc, words, None);
+    fault.more = more;
+    Ok(fault)
 }
 
-// The tuple that a pattern is; None if a `_` stands in it.
-fn plain(alloc: Global, pattern: &Pattern) -> Result<Option<Fact>, Memory> {
-    let mut values = Vec::new(alloc);
-    for value in pattern.values.iter() {
-        match value {
-            Some(value) => values.push(copy_value(alloc, value)?)?,
-            None => return Ok(None),
-        }
+fn first_texts(alloc: Global, space: &Space, tuples: &[Tuple]) -> Result<Vec<String>, Memory> {
+    let mut texts = Lines::new(alloc);
+    for tuple in tuples.iter().take(TOLD) {
+        texts.made(inner_text(alloc, space, tuple));
     }
-    Ok(Some(Fact {
-        relation: pattern.relation,
-        values,
-    }))
+    Ok(texts.done()?)
 }
 
 // An unknown that is not there is refused.
@@ -172,11 +184,6 @@ fn add_line(alloc: Global, line: &mut Text, space: &Space, reason: &Reason) {
 
 fn reason_object(alloc: Global, space: &Space, reason: &Reason) -> Object {
     let mut object = Object::new(alloc);
-    add_reason(alloc, &mut object, space, reason);
-    object
-}
-
-fn add_reason(alloc: Global, object: &mut Object, space: &Space, reason: &Reason) {
     object.made("tuple", fact_text(alloc, space, &reason.tuple));
     object.number("depth", number_of(reason.depth));
     if let Some(number) = reason.number {
@@ -194,6 +201,7 @@ fn add_reason(alloc: Global, object: &mut Object, space: &Space, reason: &Reason
             object.made("from", fact_text(alloc, space, from));
         }
     }
+    object
 }
 
 fn fact_items(alloc: Global, space: &Space, tuples: &[Tuple]) -> Items {

@@ -3,12 +3,12 @@
 use crate::reasons::{How, Reason};
 use base_types::{Memory, Tuple};
 use std::alloc::Global;
-use ws_print::Text;
+use ws_print::{Lines, Text};
 use ws_question::fact_text;
 use ws_space::Space;
 
 // A tuple by names, the update that put it, and how.
-#[derive(Drop, PartialEq, Eq)]
+#[derive(Drop)]
 struct Node {
     tuple: Tuple,
     number: Option<u32>,
@@ -18,7 +18,7 @@ struct Node {
 // The lines, the nodes by number, and the edges so far.
 #[derive(Drop)]
 struct Graph {
-    lines: Vec<String>,
+    lines: Lines,
     nodes: Vec<Node>,
     edges: Vec<(usize, usize)>,
     // The numbers of those that the next one may be a reason for.
@@ -32,22 +32,27 @@ pub(crate) fn dot_lines(
     reasons: &[Reason],
 ) -> Result<Vec<String>, Memory> {
     let mut graph = Graph {
-        lines: Vec::new(alloc),
+        lines: Lines::new(alloc),
         nodes: Vec::new(alloc),
         edges: Vec::new(alloc),
         path: Vec::new(alloc),
     };
-    for line in ["digraph why {", "  rankdir=BT;", "  node [shape=box];"] {
-        graph.lines.push(String::from_str(alloc, line)?)?;
-    }
-    for reason in reasons {
-        graph.add(alloc, space, reason)?;
-    }
-    graph.lines.push(String::from_str(alloc, "}")?)?;
-    Ok(graph.lines)
+    graph.lines.push_str("digraph why {");
+    graph.lines.push_str("  rankdir=BT;");
+    graph.lines.push_str("  node [shape=box];");
+    graph.add_all(alloc, space, reasons)?;
+    graph.lines.push_str("}");
+    Ok(graph.lines.done()?)
 }
 
 impl Graph {
+    fn add_all(&mut self, alloc: Global, space: &Space, reasons: &[Reason]) -> Result<(), Memory> {
+        for reason in reasons {
+            self.add(alloc, space, reason)?;
+        }
+        Ok(())
+    }
+
     fn add(&mut self, alloc: Global, space: &Space, reason: &Reason) -> Result<(), Memory> {
         let number = self.number_of(alloc, space, reason)?;
         self.path.truncate(reason.depth);
@@ -56,7 +61,7 @@ impl Graph {
             if !self.edges.contains(&edge) {
                 self.edges.push(edge)?;
                 let (from, to) = edge;
-                self.lines.push(format!(in alloc; "  t{from} -> t{to};")?)?;
+                self.lines.made(format!(in alloc; "  t{from} -> t{to};"));
             }
         }
         self.path.push(number)?;
@@ -70,20 +75,28 @@ impl Graph {
         space: &Space,
         reason: &Reason,
     ) -> Result<usize, Memory> {
-        let node = Node {
-            tuple: reason.tuple.share()?,
-            number: reason.number,
-            how: reason.how.word(),
-        };
-        if let Some(number) = self.nodes.iter().position(|other| *other == node) {
-            return Ok(number);
+        for (number, node) in self.nodes.iter().enumerate() {
+            if node.is_of(reason) {
+                return Ok(number);
+            }
         }
         let number = self.nodes.len();
         let label = label_of(alloc, space, reason)?;
         self.lines
-            .push(format!(in alloc; "  t{number} [label=\"{label}\"];")?)?;
-        self.nodes.push(node)?;
+            .made(format!(in alloc; "  t{number} [label=\"{label}\"];"));
+        self.nodes.push(Node {
+            tuple: reason.tuple.share()?,
+            number: reason.number,
+            how: reason.how.word(),
+        })?;
         Ok(number)
+    }
+}
+
+impl Node {
+    // Whether the reason is one for this node.
+    fn is_of(&self, reason: &Reason) -> bool {
+        self.tuple == reason.tuple && self.number == reason.number && self.how == reason.how.word()
     }
 }
 

@@ -1,50 +1,56 @@
-//! How all updates stand, for a log that tells many of them.
+//! How all updates stand, for those who tell of many of them.
 
 use base_types::Memory;
 use std::alloc::Global;
 use std::collections::BTreeMap;
-use ws_state::{State, Status};
+use ws_state::{Held, State, Status};
 
 /// How each update stands, by its number.
 #[derive(Drop)]
-pub(crate) struct Statuses {
+pub struct Statuses {
     statuses: BTreeMap<u32, Status>,
 }
 
 impl Statuses {
     /// How the updates of the state stand, found in one walk over them. It is refused only for want of memory.
-    pub(crate) fn of(alloc: Global, state: &State) -> Result<Statuses, Memory> {
+    pub fn of(alloc: Global, state: &State) -> Result<Statuses, Memory> {
         let places = by_places(alloc, state)?;
         let mut statuses = BTreeMap::new(alloc);
-        for (held, status) in state.held().iter().zip(places.iter()) {
-            if statuses.insert(held.update.number, *status).is_err() {
-                return Err(Memory);
+        for (place, held) in state.held().iter().enumerate() {
+            if let Some(status) = places.get(place) {
+                statuses.insert(held.update.number, *status)?;
             }
         }
         Ok(Statuses { statuses })
     }
 
     /// How the update of this number stands; None if there is none.
-    pub(crate) fn status(&self, number: u32) -> Option<Status> {
+    pub fn status(&self, number: u32) -> Option<Status> {
         self.statuses.get(&number).copied()
     }
 }
 
 // By the places of the updates among those that are held.
 fn by_places(alloc: Global, state: &State) -> Result<Vec<Status>, Memory> {
-    let mut places = Vec::new(alloc);
-    for held in state.held().iter() {
-        places.push(if held.is_undone {
-            Status::Undone
-        } else {
-            Status::GivenUp
-        })?;
-    }
+    let mut places = undone_or_given_up(alloc, state.held().as_slice())?;
     for standing in state.order().as_slice() {
         mark(&mut places, standing.held, Status::Stands);
     }
     for waiting in state.waiting().as_slice() {
         mark(&mut places, waiting.held, Status::Waits);
+    }
+    Ok(places)
+}
+
+// Each update as if it neither stood nor waited.
+fn undone_or_given_up(alloc: Global, updates: &[Held]) -> Result<Vec<Status>, Memory> {
+    let mut places = Vec::new(alloc);
+    for held in updates {
+        places.push(if held.is_undone {
+            Status::Undone
+        } else {
+            Status::GivenUp
+        })?;
     }
     Ok(places)
 }

@@ -1,11 +1,11 @@
 //! Items, objects and refusals of many commands.
 
+use crate::replies::{Kind, Reply};
 use def_memory::Memory;
 use std::alloc::Global;
 use ws_fault::{Fault, Status};
 use ws_json::{Items, Object};
 use ws_print::{Text, add_unknown};
-use ws_reply::{Kind, Reply};
 use ws_written::{Fact, Relation, Unknown, Value};
 
 /// A count as a number of an object.
@@ -59,40 +59,33 @@ pub fn column_items(alloc: Global, relation: &Relation) -> Items {
     items
 }
 
-/// Rows as items, each a list of its values: a number, a text, or an object that names the unknown. It is refused only for want
-/// of memory.
-pub fn row_items(alloc: Global, rows: &[Fact]) -> Result<Items, Memory> {
+/// Rows as items, each a list of its values: a number, a text, or an object that names the unknown.
+pub fn row_items(alloc: Global, rows: &[Fact]) -> Items {
     let mut items = Items::new(alloc);
     for row in rows {
-        items.items(cells(alloc, row)?);
+        items.items(cells(alloc, row));
     }
-    Ok(items)
+    items
 }
 
-fn cells(alloc: Global, row: &Fact) -> Result<Items, Memory> {
+fn cells(alloc: Global, row: &Fact) -> Items {
     let mut cells = Items::new(alloc);
     for value in &row.values {
-        add_value(alloc, &mut cells, value)?;
+        match value {
+            Value::Number(number) => cells.number(*number),
+            Value::Text(text) => cells.text(text.as_str()),
+            Value::Unknown(unknown) => cells.object(unknown_object(alloc, *unknown)),
+        }
     }
-    Ok(cells)
+    cells
 }
 
-fn add_value(alloc: Global, items: &mut Items, value: &Value) -> Result<(), Memory> {
-    match value {
-        Value::Number(number) => items.number(*number),
-        Value::Text(text) => items.text(text.as_str()),
-        Value::Unknown(unknown) => items.object(unknown_object(alloc, *unknown)?),
-    }
-    Ok(())
-}
-
-fn unknown_object(alloc: Global, unknown: Unknown) -> Result<Object, Memory> {
+fn unknown_object(alloc: Global, unknown: Unknown) -> Object {
     let mut name = Text::new(alloc);
     add_unknown(&mut name, unknown);
-    let name = name.done()?;
     let mut object = Object::new(alloc);
-    object.text("unknown", name.as_str());
-    Ok(object)
+    object.made("unknown", name.done());
+    object
 }
 
 /// The reply to a command that looks, in lines of text.

@@ -1,8 +1,8 @@
 //! What a change comes to.
 
+use crate::reports::Report;
 use std::alloc::{AllocError, Global};
 use ws_fault::{Refusal, Status};
-use ws_report::Report;
 use ws_written::Line;
 
 /// What is told of a change, and its lines.

@@ -5,11 +5,10 @@ use std::alloc::Global;
 use ws_answer::{SaidAnswer, answer, answer_several, redo, undo, undo_answers};
 use ws_command::Change;
 use ws_declare::{adopt, declare_mapping, declare_relation, drop_mapping};
-use ws_done::{Done, refuse};
 use ws_fault::Refusal;
 use ws_question::Shown;
 use ws_reply::{Context, Outcome};
-use ws_report::Report;
+use ws_report::{Done, Report, refuse};
 use ws_space::Space;
 use ws_tuples::{delete, fill, insert, replace};
 

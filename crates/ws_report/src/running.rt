@@ -1,10 +1,10 @@
 //! Updates that are taken, one at a time.
 
 use crate::faults::refuse;
+use crate::spending::spent_fault;
 use std::alloc::{AllocError, Global};
 use ws_fault::Refusal;
 use ws_print::{Text, add_line, add_update};
-use ws_report::spent_fault;
 use ws_run::Reason;
 use ws_space::{Space, unknown_of};
 use ws_state::Told;
