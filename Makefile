@@ -32,6 +32,9 @@ YT_BASH = $(DESTDIR)$(PREFIX)/share/bash-completion/completions/$(YT_NAME)
 YT_ZSH = $(DESTDIR)$(PREFIX)/share/zsh/site-functions/_$(YT_NAME)
 YT_FISH = $(DESTDIR)$(PREFIX)/share/fish/vendor_completions.d/$(YT_NAME).fish
 
+# The program that makes the schedules of small desks.
+DESKS = crates/try_desk/out/try_desk
+
 .PHONY: help run build install uninstall share quick checks differential hostile test
 
 help:
@@ -46,7 +49,7 @@ help:
 	@echo 'make checks            what needs no prover: pages, figures, stored rows and tables of the built program'
 	@echo 'make differential SEED=1 COUNT=1000'
 	@echo '                       compare the built program with the reference in Python on random sessions'
-	@echo 'make hostile           attack the built programs: refused memory, failing devices, cut and long inputs, workers, workspaces'
+	@echo 'make hostile           attack the built programs: refused memory, failing devices, cut and long inputs, workers, schedules, workspaces'
 	@echo 'make share             make the man pages and the completions from share/words.tsv'
 	@echo 'make test              the gate: prove every crate, try every must-fail edit, run every test, program and check'
 
@@ -97,6 +100,9 @@ $(LIVE):
 $(YT):
 	cd crates/$(YT_NAME) && rt run -- --version
 
+$(DESKS):
+	cd crates/try_desk && rt run < stdin > /dev/null
+
 share:
 	share/write
 
@@ -109,8 +115,8 @@ checks: $(PROGRAM)
 differential: $(PROGRAM)
 	tests/differential $(SEED) $(COUNT)
 
-hostile: $(PROGRAM) $(LIVE) $(YT)
-	tests/hostile
+hostile: $(PROGRAM) $(LIVE) $(YT) $(DESKS)
+	JOBS=$${JOBS:-$$(nproc)} tests/hostile
 
 test:
 	.ci/run

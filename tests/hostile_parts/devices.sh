@@ -11,7 +11,8 @@ each_write() {
 }
 
 rows=(one-repair conflict-abort travel travel-save ask-travel journal-travel recover-travel travel-format stuck-missing
-  base-violates refused-no-number recover-cut explain one-repair-trace)
+  base-violates refused-no-number recover-cut explain one-repair-trace travel-serial travel-one-worker-trace audit-travel audit-conflict
+  longest-cycle-stuck chain-of-fifty explain-travel-rewritten cascade taken-null unify-answer stuck-save)
 if [ -n "$cheap" ]; then
   rows=(one-repair travel recover-travel stuck-missing base-violates)
 fi

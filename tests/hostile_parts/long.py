@@ -248,16 +248,24 @@ def narrow(tally, program):
 
 # ---- matching that explodes ----
 
+NAMES = "abcdefgh"
+LEFT = ", ".join(f"A({name})" for name in NAMES).encode()
+
+
+def met_early():
+    """Sessions in which a step has 60 to the power of 8 matches, and what its first atom tells suffices."""
+    tuples = lines(b"base A(%d)\n", 60) + lines(b"base B(%d)\n", 60)
+    many = b"relation A 1\nrelation B 1\nmapping m: %s -> B(a)\n" % LEFT + tuples
+    yield "a base that meets a mapping of 8 atoms", ["check"], b"youtopia 1\n" + many + END, counts(2, 1, 120, 0, 0)
+    yield "its saved session", ["save"], b"youtopia 1\n" + many + END, ended(b"youtopia 2\n" + many + END)
+    few = ONE + b"relation B 1\nrelation C 1\nmapping m: %s, C(z) -> B(z)\n" % LEFT[:LEFT.rindex(b",")] + lines(b"base A(%d)\n", 60) + b"base B(1)\n"
+    yield "an update that meets it", ["run"], few + b"update a ann insert C(1)\n" + END, ended(
+        b"youtopia result 1\nupdate 1 a ann done steps 2 nulls 0\nrepository 62\n" + lines(b"A(%d)\n", 60) + b"B(1)\nC(1)\ncommitted 1 of 1\n")
+
+
 def explosions():
-    """Sessions in which some step has 60 to the power of 8 matches to look at."""
-    names = "abcdefgh"
-    left = ", ".join(f"A({name})" for name in names).encode()
-    many = ONE + b"relation B 1\nmapping m: %s -> B(a)\n" % left + lines(b"base A(%d)\n", 60) + lines(b"base B(%d)\n", 60)
-    yield "a base that meets a mapping of 8 atoms", ["check"], many + END
-    yield "its saved session", ["save"], many + END
-    few = ONE + b"relation B 1\nrelation C 1\nmapping m: %s, C(z) -> B(z)\n" % left[:left.rindex(b",")] + lines(b"base A(%d)\n", 60) + b"base B(1)\n"
-    yield "an update that meets it", ["run"], few + b"update a ann insert C(1)\n" + END
-    query = "q(" + ", ".join(names) + "): " + left.decode()
+    """A query with 60 to the power of 8 answers."""
+    query = "q(" + ", ".join(NAMES) + "): " + LEFT.decode()
     yield "a query of 8 atoms", ["ask", "--query", query], ONE + lines(b"base A(%d)\n", 60) + END
 
 
@@ -275,6 +283,8 @@ def main():
         tally.compare(f"{name}, yt_live", wanted, told_within(live, [], data, MEGABYTES, SECONDS))
     if not cheap:
         narrow(tally, program)
+    for name, words, data, wanted in met_early():
+        tally.compare(f"{name}, {words[0]}", wanted, told_within(program, words, data, MEGABYTES, 1))
     for name, words, data in explosions():
         tally.compare(f"{name}, {words[0]}", (-9, b"", b""), told_within(program, words, data, MEGABYTES, 1))
     tally.end()

@@ -32,9 +32,11 @@ fi
 # Larger sessions, by commands with one thread.
 made_row cycle serial --steps 300 < tests/rows/longest-cycle-stuck/session
 attack "$row" FAULTS=memory FAULTS_INSIDE=1
-made_row random serial < <(bench/sessions.py random --count 200)
-attack "$row" FAULTS=memory FAULTS_INSIDE=1
-attack "$row" FAULTS=memory FAULTS_INSIDE=1 FAULTS_LASTING=1
+for seed in 1 2 3 4 5; do
+  made_row "random-$seed" serial < <(bench/sessions.py random --count 200 --seed "$seed")
+  attack "$row" FAULTS=memory FAULTS_INSIDE=1
+  attack "$row" FAULTS=memory FAULTS_INSIDE=1 FAULTS_LASTING=1
+done
 made_row contention journal < <(bench/sessions.py contention --updates 150)
 attack "$row" FAULTS=memory FAULTS_INSIDE=1
 made_row join save < <(bench/sessions.py join --base 700 --updates 60)

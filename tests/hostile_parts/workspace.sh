@@ -17,6 +17,7 @@ on_workspaces places
 if [ -n "$cheap" ]; then
   on_workspaces kills "$calls" 1
   on_workspaces cuts "$calls" "$record" 1 1 100
+  on_workspaces names "$calls" "$record"
   on_workspaces images "$record" all 1 1 50
   on_workspaces images "$record" random 1 1 1000
   on_workspaces calls "$calls" 1 cheap
@@ -34,6 +35,7 @@ if [ -n "$cheap" ]; then
 else
   on_workspaces kills "$calls" 5
   on_workspaces cuts "$calls" "$record" 1 20 500
+  on_workspaces names "$calls" "$record"
   on_workspaces images "$record" all 1 10
   on_workspaces images "$record" random 1 50 20000
   on_workspaces calls "$calls" 3

@@ -13,7 +13,7 @@ import os
 import shutil
 import sys
 
-from workspace_runs import NEVER, STRICT, Bench, Tally, command_list, yt
+from workspace_runs import Bench, Tally, command_list, yt
 
 WAYS = [(str(errno.EIO), False), (str(errno.ENOSPC), False), (str(errno.EINTR), False), ("short", False), (str(errno.EIO), True), ("short", True),
         (str(errno.ENOSPC), True), (str(errno.EDQUOT), True), (str(errno.EROFS), True), ("memory", False)]
@@ -53,19 +53,11 @@ class Failing:
                 what = f"{name.read()} {number} {do}{' lasting' * lasting} of {self.line}"
             self.check(what, told, counts)
 
-    def is_known(self, status, in_words, there):
-        """What yt is known not to stand: a name is given already; a script, whose lines cannot be read, ends without a word."""
-        named = self.was is NEVER or self.line == "fold"
-        return status == 7 and named and there == self.becomes != self.was or status == 5 and "\n" in self.line and not in_words
-
     def check(self, what, told, counts):
         status, out, err = told
         in_words = err.startswith(b"yt: ") or b'"reply":"fault"' in out
         there = self.bench.stands_for(self.file)
         # A new file may be there without a record yet: that of a change that was refused, which takes no part in what it stands for.
-        if not STRICT and self.is_known(status, in_words, there):
-            counts[status, "or its word as workspace_runs.py has it"] += 1
-            return
         counts[status, "as before" if there == self.was else "with the record"] += 1
         if status == (7 if " memory " in what else 5):
             good = (in_words or " lasting " in what) and there == self.was

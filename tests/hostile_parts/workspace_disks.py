@@ -2,12 +2,9 @@
 
 A file has the bytes of its last sync, and the writes since. Of each of these a crash leaves all, nothing, or a part, and anything in the place of
 the rest; the file ends anywhere from its synced end on. The path names the file that it named when its folder was last synced, or one that
-it was given since. Without STRICT no last byte of a torn write becomes an open gate, and the names that a killed process gave are synced when the
-next one begins.
+it was given since, by any process.
 """
 import itertools
-
-from workspace_runs import STRICT
 
 SECTOR = 512
 
@@ -68,8 +65,6 @@ class Disk:
     def begin(self):
         """A process begins."""
         self.told = b""
-        if not STRICT:
-            self.may = [self.named]
 
     def state(self):
         """What a crash now may find at the path: for each file what is synced and what is not, or None."""
@@ -133,10 +128,8 @@ def torn_images(rng, synced, image, write, stride):
     """The image with one write more, torn; of STRIDE that open no gate one is drawn."""
     at, data = write
     for part in torn(rng, image[at:at + len(data)], data):
-        of_all = opens_gate(part, data)
-        if STRICT or not of_all:
-            images = ended(rng, synced, over(image, at, part))
-            yield from (image for image in images if of_all or stride < 2 or rng.random() * stride < 1)
+        images = ended(rng, synced, over(image, at, part))
+        yield from (image for image in images if opens_gate(part, data) or stride < 2 or rng.random() * stride < 1)
 
 
 def images_of(rng, synced, open_, stride):
@@ -158,7 +151,7 @@ def random_image(rng, state, others):
     image = synced
     for at, data in rng.sample(open_, len(open_)):
         part = part_of(rng, (image[at:at + len(data)] + bytes(len(data)))[:len(data)], data, others)
-        image = over(image, at, data if opens_gate(part, data) and not STRICT else part)
+        image = over(image, at, part)
     if rng.random() < 0.1:
         image += fill(rng, rng.choice([1, 3, SECTOR, 4096]), others)
     return image if rng.random() < 0.5 else image[:rng.randrange(len(synced), len(image) + 1)]

@@ -4,8 +4,7 @@
 COUNT files of random scripts. Of each every bit is flipped, if FILES is 1,000 or more; then FILES times it is damaged at random, as in
 workspace_flips.py, or forged: the lines of its records are garbled, lost, doubled or moved, and each record has the right seal again. What is
 damaged is told so, or nothing has changed, or whole records have gone from the end. What is forged is told as damaged, or read. yt replies to each
-question, goes on, and takes no second for it. Each 100th that is damaged is told as the reference tells it; with STRICT in the environment also what
-is forged and read. Equal files count once. JOBS processes in the environment. The last line is 'N passed, M failed'.
+question, goes on, and takes no second for it. Each 100th that is damaged is told as the reference tells it, and also what is forged and read. Equal files count once. JOBS processes in the environment. The last line is 'N passed, M failed'.
 """
 import hashlib
 import json
@@ -19,7 +18,7 @@ from pathlib import Path
 from workspace_flips import damaged
 from workspace_garbled import garbled_line
 from workspace_images import OPTIONS, SHOWN, Judge, settled
-from workspace_runs import LOOKS, NEVER, STRICT, Bench, Workspace, by_reference, random_script
+from workspace_runs import LOOKS, NEVER, Bench, Workspace, by_reference, random_script
 
 from oracle.yt.files import frame, sealed          # noqa: E402
 
@@ -126,7 +125,7 @@ class Attack:
     def forge(self, image):
         if self.is_new(image):
             shown = self.shown(image)
-            if STRICT and not is_damaged(shown):
+            if not is_damaged(shown):
                 self.compare(image, shown)
 
     def play(self, files):

@@ -71,9 +71,13 @@ def difference(bench, options, data):
             if name.startswith("w.yt"):
                 os.unlink(bench.path(name))
         both.append(run([*options, file], data))
-    both[0] = with_controls_shown(both[0])
+    return differing(*both)
+
+
+def differing(wanted, told):
+    """What the reference and yt told, if it is not the same."""
     # A line that is at fault is shown as it was said, with its tabs.
-    both = [(status, out, err.replace(b"\t", b"\\u{9}")) for status, out, err in both]
+    both = [(status, out, err.replace(b"\t", b"\\u{9}")) for status, out, err in (with_controls_shown(wanted), told)]
     return None if both[0] == both[1] else both
 
 

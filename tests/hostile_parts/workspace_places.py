@@ -14,7 +14,7 @@ import sys
 from pathlib import Path
 
 from workspace_room import mounted
-from workspace_runs import STRICT, Bench, Tally, yt
+from workspace_runs import Bench, Tally, yt
 
 NOBODY = 65534
 CREATE, CHANGE, FOLD = "relation A(x, y)", "insert A(1, ?), A(2, 2)", "fold"
@@ -71,7 +71,7 @@ class Places:
         self.tally.holds("the good file is as it was", Path(self.good).read_bytes() == self.data)
 
     def odd_names(self):
-        for name in ["a b.yt", "-w.yt", "w\n.yt", "\u65e5.yt", "n" * 235, "n" * 255, "w.yt.1.new"] + [b"w\xe9.yt"] * STRICT:
+        for name in ["a b.yt", "-w.yt", "w\n.yt", "\u65e5.yt", "n" * 235, "n" * 255, "w.yt.1.new", b"w\xe9.yt"]:
             path = os.path.join(os.fsencode(self.bench.folder), os.fsencode(name))
             status = subprocess.run([self.bench.program, path, CREATE], capture_output=True, timeout=60).returncode
             self.tally.holds(f"a file of the name {name}: {status}", os.path.exists(path) == (status == 0) and status in (0, 2, 6))
@@ -83,6 +83,25 @@ class Places:
         before = Path(long).read_bytes()
         self.says("a name that leaves no room for one beside it", long, FOLD, [6])
         self.tally.holds("it is as it was", Path(long).read_bytes() == before)
+
+    def odd_words(self):
+        """A word that is not UTF-8 is refused by its number, and a script that cannot be read in words."""
+        for words, number in (([self.good, b"show \xe9"], 2), ([b"--as=\xe9", self.good, "show"], 1), ([self.good, "show", "A", b"\xff"], 4)):
+            for json in ([], ["--json"]):
+                run = subprocess.run([self.bench.program, *json, *words], capture_output=True, timeout=60)
+                said = b"word %d is not UTF-8" % (number + len(json))
+                self.tally.holds(f"{json} {words}: {run}", run.returncode == 2 and said in (run.stdout if json else run.stderr))
+        run = subprocess.run([os.fsencode(self.bench.folder) + b"/\xe9", self.good, "status"], executable=self.bench.program, capture_output=True)
+        self.tally.holds(f"a program whose name is not UTF-8: {run}", run.returncode == 0)
+        run = subprocess.run([self.bench.program, self.good, "insert A(9, 9)"], capture_output=True, env={**os.environb, b"YT_TIME": b"\xe9"})
+        self.tally.holds(f"a time that is not UTF-8: {run}", run.returncode == 2 and b"YT_TIME is no time" in run.stderr)
+        folder = os.open(self.bench.folder, os.O_RDONLY)
+        for words in ([self.good], [self.good, "load", "A", "-"], [self.good, "load A --lines 2"]):
+            run = subprocess.run([self.bench.program, *words], capture_output=True, timeout=60, stdin=folder)
+            said = b"yt: cannot read standard input: is a directory\n"
+            self.tally.holds(f"a folder as standard input of {words}: {run}", run.returncode == 5 and run.stderr == said)
+        os.close(folder)
+        self.tally.holds("the good file is as it was", Path(self.good).read_bytes() == self.data)
 
     def links(self):
         target, there = self.path("there/target.yt", self.data), self.bench.path("link.yt")
@@ -157,7 +176,7 @@ def main():
     tally = Tally()
     with Bench(os.path.realpath(sys.argv[1])) as bench:
         places = Places(bench, tally)
-        for attack in (places.no_files, places.odd_names, places.links, places.permissions, places.only_read, places.in_use):
+        for attack in (places.no_files, places.odd_names, places.odd_words, places.links, places.permissions, places.only_read, places.in_use):
             attack()
     tally.end()
 

@@ -16,10 +16,8 @@ from oracle.yt.workspace import Workspace          # noqa: E402
 os.environ.update(YT_TIME="2026-11-30T09:00:00Z", YT_CURATOR="ann", LC_ALL="C.UTF-8")
 LOOKS = b"show\nlog\nquestions\nviolations\nstatus\n"
 NEVER = "there is no file"
-# What yt is known not to stand counts only with STRICT in the environment: in `images` and `cuts` a torn record that is whole but for its closed
-# gate, which became an open one; in `cuts` a name that a killed process gave and no later one synced; in `verbs` want of memory between the name
-# of a new file and the sync of its folder, and while the lines of a script are read; in `places` a word that is not UTF-8; in `forged` a record
-# under a right seal that gives a number once more, which nobody but a forger writes.
+# What yt is known to tell otherwise than the reference counts only with STRICT in the environment, in `guided`: of a forged file with several faults
+# another one first, or none, and a control character in the name of a file that is not there.
 STRICT = "STRICT" in os.environ
 
 

@@ -101,7 +101,7 @@ def sections_of(page):
 def offences(page):
     for heading, lines in sections_of(page):
         crate = heading if heading in CRATES else None
-        if not crate and heading not in ("Eleven promises", "The whole program", "The formats"):
+        if not crate and heading not in ("Twelve promises", "The whole program", "The formats"):
             continue
         for number, item in items_of(lines):
             quoted = re.findall(r"`([^`]+)`", item)

@@ -4,7 +4,7 @@ import re
 from .cursor import NULL, OPTION, Cursor
 from .faults import Fault, mean
 from .printing import control
-from .verbs import CHANGES, OPTIONS, RECORDS, SAME, VERBS
+from .verbs import CHANGES, OPTIONS, RECORDS, SAME, UNTOLD, VERBS
 
 
 class Schema:
@@ -114,19 +114,20 @@ def query(c, schema):
 def options(c, verb):
     """{option: value} at the end of the line."""
     known, out = OPTIONS.get(verb, {}), {}
+    taken = {**known, **UNTOLD.get(verb, {})}
     while not c.done():
         m = OPTION.match(c.s, c.i)
         if not m:
             c.fail("the end of the line")
         name, at = m.group(1), c.i
-        if name not in known:
+        if name not in taken:
             raise Fault("%s has no option --%s" % (verb, name), at, mean(name, known) or
                         ("it has " + ", ".join("--" + o for o in known) if known else "it has none"))
         if name in out:
             raise Fault("--%s stands twice" % name, at)
         c.i = m.end()
         c.skip()
-        kind = known[name]
+        kind = taken[name]
         if kind is None:
             out[name] = True
         elif kind == "number":

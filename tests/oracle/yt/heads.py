@@ -60,6 +60,8 @@ class Heads:
             elif w == "waits":
                 time, curator, text = rest.split(" ", 2)
                 number, steps, cmd = read_item(text, self.schema, self.mappings)
+                if number > self.last or number in self.items:
+                    raise ValueError("the number %d was not given, or is given twice" % number)
                 item = Item(number, curator, time, bare(cmd), steps)
                 item.first = True
                 self.items[number] = self.waiting[number] = item
@@ -99,6 +101,8 @@ class Heads:
     def log_line(self, entry, text):
         if text[0].isdigit():
             number, steps, cmd = read_item(text, self.schema, self.mappings)
+            if number <= self.last:
+                raise ValueError("the number %d is given twice" % number)
             entry["lines"].append((number, cmd, cmd[-1].get("#", "") if isinstance(cmd[-1], dict) else ""))
             self.do_item(number, entry["curator"], entry["time"], bare(cmd), steps)
             return

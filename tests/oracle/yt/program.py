@@ -16,6 +16,11 @@ def curator(name):
     return n if re.match(r"[A-Za-z_]", n) else "_" + n
 
 
+def is_text(word):
+    """Whether a word of the command line, whose bytes that are not UTF-8 are surrogates here, has none of these."""
+    return not any("\udc80" <= letter <= "\udcff" for letter in word)
+
+
 def wants_json(argv):
     """Whether --json stands in front of the command, in words that may be at fault."""
     i, files = 0, 0
@@ -90,6 +95,9 @@ def main(argv):
             err.write(("yt: %s\n" % words + ("  %s\n" % hint if hint else "")).encode("utf-8", "replace"))
         return WORDS
 
+    for number, word in enumerate(argv, 1):
+        if not is_text(word):
+            return fault("word %d is not UTF-8" % number)
     if os.environ.get("YT_TIME") and not re.fullmatch(r"\d{4}-\d\d-\d\dT\d\d:\d\d:\d\dZ", os.environ["YT_TIME"]):
         return fault("YT_TIME is no time of the form 2026-11-30T09:00:00Z")
     try:
@@ -124,6 +132,10 @@ def main(argv):
         except OSError:
             return WRITE
 
+    def unread(e):
+        words = "cannot read standard input: %s" % (e.strerror or "fault").lower()
+        return give(Reply(READ, [words], {"reply": "fault", "words": words}), None)
+
     if command is not None:
         if "\n" in command:
             return fault("a command is one line")
@@ -134,8 +146,7 @@ def main(argv):
             elif T.reads_input(command):
                 data = (sys.stdin.buffer.read(), 0)
         except OSError as e:
-            words = "cannot read standard input: %s" % (e.strerror or "fault").lower()
-            return give(Reply(READ, [words], {"reply": "fault", "words": words}), None)
+            return unread(e)
         reply = ws.command(command, data)
         return give(reply, None) if reply else 0
     terminal = sys.stdin.isatty()
@@ -146,8 +157,8 @@ def main(argv):
             out.flush()
         try:
             raw = sys.stdin.buffer.readline()
-        except OSError:
-            return READ
+        except OSError as e:
+            return unread(e)
         if not raw:
             break
         number += behind + 1
@@ -156,8 +167,8 @@ def main(argv):
         if count:
             try:
                 data = next_lines(count)
-            except OSError:
-                return READ
+            except OSError as e:
+                return unread(e)
             behind = data[1]
         try:
             line = raw.decode().rstrip("\n")

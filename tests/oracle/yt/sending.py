@@ -3,27 +3,37 @@ import json
 import os
 
 from . import text as T
+from .databases import write_database
 from .dumps import dump_text
 from .files import FileFault
 from .pictures import graph_dot, page_html
 from .replies import DONE, WRITE, Reply
 
 
+def write_text(path, text):
+    with open(path, "wb") as f:
+        f.write(text.encode())
+
+
 class Sending:
     """Sends texts to a file or to the output."""
 
     def sent(self, text, opts, kind):
-        """A text to --to FILE, or to the output."""
+        """A text to --to FILE, or to the output; a database to --sqlite FILE."""
+        if "sqlite" in opts:
+            return self.wrote(opts["sqlite"], "\n".join(text) + "\n", write_database)
         if "to" in opts:
-            if os.path.exists(opts["to"]) and os.path.samefile(opts["to"], self.ws.path):
-                raise FileFault(WRITE, "cannot write %s: it is the workspace" % self.ws.say(opts["to"]))
-            try:
-                with open(opts["to"], "wb") as f:
-                    f.write(("\n".join(text) + "\n").encode())
-            except OSError as e:
-                raise FileFault(WRITE, "cannot write %s: %s" % (self.ws.say(opts["to"]), (e.strerror or "fault").lower()))
-            return Reply(DONE, ["wrote %s" % opts["to"]], {"reply": "wrote", "file": opts["to"]})
+            return self.wrote(opts["to"], "\n".join(text) + "\n", write_text)
         return Reply(DONE, text, {"reply": kind, "text": "\n".join(text) + "\n"})
+
+    def wrote(self, path, text, write):
+        if os.path.exists(path) and os.path.samefile(path, self.ws.path):
+            raise FileFault(WRITE, "cannot write %s: it is the workspace" % self.ws.say(path))
+        try:
+            write(path, text)
+        except OSError as e:
+            raise FileFault(WRITE, "cannot write %s: %s" % (self.ws.say(path), (e.strerror or "fault").lower()))
+        return Reply(DONE, ["wrote %s" % path], {"reply": "wrote", "file": path})
 
     def do_graph(self, cmd):
         return self.sent(graph_dot(self.space), cmd[-1], "dot")
@@ -36,10 +46,10 @@ class Sending:
 
     def do_export(self, cmd):
         s, opts = self.space, cmd[-1]
-        if sum(k in opts for k in ("csv", "sql", "json")) > 1:
-            raise T.Fault("one of --csv, --sql and --json")
+        if sum(k in opts for k in ("csv", "sql", "json", "sqlite")) > 1 or "sqlite" in opts and "to" in opts:
+            raise T.Fault("one of --csv, --sql and --json", None, "or --sqlite FILE alone" if "sqlite" in opts else None)
         rels = [cmd[1]] if cmd[1] is not None else list(range(len(s.schema.relations)))
-        if "sql" in opts:
+        if "sql" in opts or "sqlite" in opts:
             return self.sent(self.sql(rels), opts, "sql")
         if "json" in opts:
             out = []

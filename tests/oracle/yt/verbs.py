@@ -15,6 +15,7 @@ OPTIONS = {      # verb: {option: None for a flag, else what its value is}
     "questions": {"like": "word", "limit": "number", "mine": None}, "violations": {"limit": "number"}, "log": {"limit": "number", "since": "number"},
     "export": {"csv": None, "sql": None, "json": None, "to": "word"}, "page": {"to": "word"},
     "graph": {"to": "word"}, "dump": {"to": "word"}}
+UNTOLD = {"export": {"sqlite": "word"}}  # those that no fault lists
 RECORDS = {"at", "since", "still"}       # options that take the number of a record
 for _verb in CHANGES:
     OPTIONS.setdefault(_verb, {})["still"] = "number"

@@ -111,7 +111,7 @@ class Workspace:
     def allowed(self, cmd):
         """Refuses a command that reads or writes another file, if files are closed; and one that is not --still up to date."""
         cmd = cmd[1] if cmd[0] == "try" else cmd
-        if self.closed and (cmd[0] == "load" and cmd[2] not in (None, "-") or "to" in cmd[-1]):
+        if self.closed and (cmd[0] == "load" and cmd[2] not in (None, "-") or "to" in cmd[-1] or "sqlite" in cmd[-1]):
             raise T.Fault("files are closed", None, None, 3)
         at = 0 if self.space is None else self.space.at
         if cmd[-1].get("still", at) != at:
