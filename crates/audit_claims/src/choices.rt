@@ -28,8 +28,7 @@ pub enum ChoiceText {
     Choice(Choice),
 }
 
-/// Reads the text of a choice as it stands behind the label of an answer. A null may come from any update. It is refused only
-/// for want of memory.
+/// Reads the text of a choice as it stands behind the label of an answer. A null may come from any update.
 pub fn read_choice(alloc: Global, schema: &Schema, text: &[u8]) -> Result<ChoiceText, Memory>
     ensures says { IfOk result (SaysChoice schema.now text.now) }
 {

@@ -24,8 +24,8 @@ pub enum Claim {
 // The most that the number of an update may be.
 const MOST: u64 = MOST_UPDATES as u64;
 
-/// The event that a line tells, if it tells one: it is a JSON object that names an event and the number of an update, and for
-/// an answer a choice. It is refused only for want of memory.
+/// The event that a line tells, if it tells one: it is a JSON object that names an event and the number of an update, and for an
+/// answer a choice.
 pub fn read_claim(alloc: Global, schema: &Schema, line: &[u8]) -> Result<Option<Claim>, Memory>
     ensures claim { IfOk result (IsClaimOn schema.now line.now) }
 {

@@ -9,8 +9,7 @@ use base_types::Memory;
 use memchr::memchr;
 use std::alloc::Global;
 
-/// The lines behind the first, where the text is `trace N` and N lines, each ended by a line feed; else nothing. It is refused
-/// only for want of memory.
+/// The lines behind the first, where the text is `trace N` and N lines, each ended by a line feed; else nothing.
 pub fn counted_lines(alloc: Global, text: &[u8]) -> Result<Option<&[u8]>, Memory>
     ensures lines { IfOk result (λ found. IfSome found (λ rest.
         (lines : List (List ℕ)) × IsCounted text.now rest.now lines)) }

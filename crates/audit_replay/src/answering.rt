@@ -11,7 +11,7 @@ use base_types::{Choice, Memory, TryCopy};
 use core_entries::Entry;
 use std::alloc::Global;
 
-/// Delivers the first recorded answer to the update at the place, and gives the entry. It is refused only for want of memory.
+/// Delivers the first recorded answer to the update at the place, and gives the entry.
 pub(crate) fn deliver_to(
     updates: &mut [AuditedUpdate],
     settings: Settings,
@@ -30,7 +30,7 @@ pub(crate) fn deliver_to(
     Ok(Entry::Delivered { update, standing })
 }
 
-/// Answers the question of the update at the place, and gives the entry. It is refused only for want of memory.
+/// Answers the question of the update at the place, and gives the entry.
 pub(crate) fn answer_to(
     alloc: Global,
     updates: &mut [AuditedUpdate],

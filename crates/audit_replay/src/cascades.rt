@@ -17,9 +17,8 @@ use base_types::{MappingList, Memory};
 use core_entries::{Cause, CauseList};
 use std::alloc::Global;
 
-/// Why each of the updates depends that does on what is lost, or on what is lost by this: those that the first causes are for
-/// go, and so does each that depends. The uppermost level lies below the first update, without what is lost; it does so at
-/// the end. It is refused only for want of memory.
+/// Why each of the updates depends that does on what is lost, or on what is lost by this: those that the first causes are for go,
+/// and so does each that depends. The uppermost level lies below the first update, without what is lost; it does so at the end.
 pub(crate) fn dependences<'r>(
     alloc: Global,
     levels: &mut Levels,
@@ -119,7 +118,7 @@ fn dependence_by(
     }
 }
 
-/// Whether one of the causes is for the update of this number. It takes no memory.
+/// Whether one of the causes is for the update of this number.
 pub(crate) fn is_named(causes: &CauseList, number: u32) -> bool
     ensures named { result ≡ has_number (readers_in causes.now.items) number }
 {

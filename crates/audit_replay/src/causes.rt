@@ -18,7 +18,7 @@ use core_entries::CauseList;
 use std::alloc::Global;
 
 /// Why updates are restarted where the one below them, of this number, loses this trail: each depends on one that goes. The
-/// uppermost level lies below that update; it does so at the end. It is refused only for want of memory.
+/// uppermost level lies below that update; it does so at the end.
 pub(crate) fn causes_of_loss(
     alloc: Global,
     levels: &mut Levels,
@@ -40,9 +40,8 @@ pub(crate) fn causes_of_loss(
     Ok(causes)
 }
 
-/// Why they are where that one made these writes just now, which makes this its trail: the conflicts, and then the
-/// dependences on those in conflict. The uppermost level lies below that update; it does so at the end. It is refused only
-/// for want of memory.
+/// Why they are where that one made these writes just now, which makes this its trail: the conflicts, and then the dependences on
+/// those in conflict. The uppermost level lies below that update; it does so at the end.
 pub(crate) fn causes_of_writes(
     alloc: Global,
     levels: &mut Levels,
@@ -94,7 +93,7 @@ fn dependences_on(
     Ok(causes)
 }
 
-// Puts the causes behind the others. It is refused only for want of memory.
+// Puts the causes behind the others.
 fn put_all(causes: &mut CauseList, more: CauseList) -> Result<(), Memory>
     ensures all { OnOk result (causes.new.items ≡ causes.old.items ++ more.items) }
 {

@@ -33,8 +33,8 @@ pub(crate) struct Reader<'r> {
     pub(crate) direction: Direction,
 }
 
-/// The first read of the update's log that mentions one of the relations and has another value, where the facts lie below
-/// the update. It is refused only for want of memory.
+/// The first read of the update's log that mentions one of the relations and has another value, where the facts lie below the
+/// update.
 pub(crate) fn changed_read(
     alloc: Global,
     audited: &AuditedUpdate,
@@ -165,7 +165,7 @@ fn changed_at(
     }))
 }
 
-// The value that the read has now. It is refused only for want of memory.
+// The value that the read has now.
 fn value_now(alloc: Global, reader: &Reader<'_>, read: &LoggedRead) -> Result<Reply, Memory>
     ensures value { IfOk result (λ answer. reply_of answer ≡
         value_now_def (rules_in reader.now.mappings.now) (heading_of reader.now.direction)

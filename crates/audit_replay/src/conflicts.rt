@@ -26,8 +26,8 @@ pub(crate) struct Scene<'a> {
     pub(crate) committed: u32,
 }
 
-/// The conflicts of the updates with what the writer wrote just now, of these relations. The uppermost level lies below the
-/// first of them, with the writes; it does so at the end. It is refused only for want of memory.
+/// The conflicts of the updates with what the writer wrote just now, of these relations. The uppermost level lies below the first
+/// of them, with the writes; it does so at the end.
 pub(crate) fn conflicts(
     alloc: Global,
     levels: &mut Levels,
@@ -71,7 +71,7 @@ fn conflicts_above(
     Ok(causes)
 }
 
-/// Puts the cause behind the others, if there is one. It is refused only for want of memory.
+/// Puts the cause behind the others, if there is one.
 pub(crate) fn put(causes: &mut CauseList, found: Option<Cause>) -> Result<(), Memory>
     ensures put { OnOk result (causes.new.items ≡ causes.old.items ++ option_to_list found) }
 {

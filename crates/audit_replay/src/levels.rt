@@ -30,7 +30,7 @@ impl Model for Levels {
 }
 
 impl Levels {
-    /// The one level of the set. It takes no memory.
+    /// The one level of the set.
     pub fn new(alloc: Global, facts: IndexedFacts) -> Levels
         ensures one { result ≡ facts ∷ [] }
     {
@@ -40,23 +40,22 @@ impl Levels {
         }
     }
 
-    /// The uppermost level. It takes no memory.
+    /// The uppermost level.
     pub fn facts(&self) -> &IndexedFacts
         ensures top { result.now ≡ top self.now }
     {
         &self.facts
     }
 
-    /// How many levels there are above the lowest. It takes no memory.
+    /// How many levels there are above the lowest.
     pub fn height(&self) -> usize
         ensures height { length self.now ≡ suc result }
     {
         self.back.len()
     }
 
-    /// Puts one more level above the others: the uppermost one with these writes made. It is refused only for want of
-    /// memory; the levels are then to be let go: they are as many as before, and what
-    /// lies in them is left open.
+    /// Puts one more level above the others: the uppermost one with these writes made. If it is refused, the levels are to be
+    /// dropped: they are as many as before, and what lies in them is left open.
     pub fn rise(&mut self, alloc: Global, writes: &[Write]) -> Result<(), Memory>
         ensures raised { OnOk result (self.new ≡ raised self.old (map change_of writes.now)) }
         ensures err { OnErr result (AreAsMany self.old self.new) }
@@ -66,8 +65,8 @@ impl Levels {
         Ok(())
     }
 
-    /// Takes the uppermost level away, where it is not the lowest too. It is refused only for want of memory; the levels are then
-    /// to be let go: they are one fewer, and what lies in them is left open.
+    /// Takes the uppermost level away, where it is not the lowest too. If it is refused, the levels are to be dropped: they are
+    /// one fewer, and what lies in them is left open.
     pub fn sink(&mut self) -> Result<(), Memory>
         requires above { 2 ≤ length self.old }
         ensures sunk { OnOk result (self.new ≡ drop 1 self.old) }
@@ -80,8 +79,8 @@ impl Levels {
         Ok(())
     }
 
-    /// Takes levels away until so many are left above the lowest. It is refused only for want of memory; the levels are then to
-    /// be let go: they are still at least so many, and what lies in them is left open.
+    /// Takes levels away until so many are left above the lowest. If it is refused, the levels are to be dropped: they are still
+    /// at least so many, and what lies in them is left open.
     pub fn sink_to(&mut self, height: usize) -> Result<(), Memory>
         requires above { height + 1 ≤ length self.old }
         ensures sunk { OnOk result
@@ -95,8 +94,7 @@ impl Levels {
     }
 }
 
-// Makes the writes in turn, and gives those that take them back, the last of them first to be made. It is refused only for
-// want of memory.
+// Makes the writes in turn, and gives those that take them back, the last of them first to be made.
 fn make_all(alloc: Global, facts: &mut IndexedFacts, writes: &[Write]) -> Result<WriteList, Memory>
     ensures made { OnOk result (facts.new ≡ apply facts.old (map change_of writes.now)) }
     ensures back { IfOk result (λ back.
@@ -109,7 +107,7 @@ fn make_all(alloc: Global, facts: &mut IndexedFacts, writes: &[Write]) -> Result
     Ok(back)
 }
 
-// Makes the writes, the last of them first. It is refused only for want of memory.
+// Makes the writes, the last of them first.
 fn take_all_back(facts: &mut IndexedFacts, back: WriteList) -> Result<(), Memory>
     ensures made { OnOk result (facts.new ≡ apply facts.old (reverse (map change_of back.items))) }
 {

@@ -45,7 +45,7 @@ pub(crate) struct Numbered {
 }
 
 impl<'r> Losses<'r> {
-    /// Nothing is lost. It takes no memory.
+    /// Nothing is lost.
     pub(crate) fn none(alloc: Global) -> Losses<'r>
         ensures none { result.members.items ≡ [] }
         ensures told { AreTold result }
@@ -56,7 +56,7 @@ impl<'r> Losses<'r> {
         }
     }
 
-    /// Loses the trail of the update of this number. It is refused only for want of memory.
+    /// Loses the trail of the update of this number.
     pub(crate) fn lose(&mut self, number: u32, trail: &'r [Write]) -> Result<(), Memory>
         ensures lost { OnOk result (Loses number (map change_of trail.now) self.old self.new) }
     {
@@ -65,8 +65,7 @@ impl<'r> Losses<'r> {
         Ok(())
     }
 
-    /// Passes the update, below which the uppermost level lies: it goes, or its trail is put above the others. It is refused
-    /// only for want of memory.
+    /// Passes the update, below which the uppermost level lies: it goes, or its trail is put above the others.
     pub(crate) fn pass(
         &mut self,
         alloc: Global,
@@ -87,9 +86,8 @@ impl<'r> Losses<'r> {
         Ok(())
     }
 
-    /// The first read of the update that depends on what is lost: by values, one that has another value without it; by
-    /// relations, one that mentions a relation of it. The uppermost level lies below the update, without what is lost. It
-    /// is refused only for want of memory.
+    /// The first read of the update that depends on what is lost: by values, one that has another value without it; by relations,
+    /// one that mentions a relation of it. The uppermost level lies below the update, without what is lost.
     pub(crate) fn first_dependent(
         &self,
         alloc: Global,

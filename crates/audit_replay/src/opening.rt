@@ -21,7 +21,7 @@ use run_serial::{base_of, mappings_of};
 use std::alloc::Global;
 
 impl<'s> Replay<'s> {
-    /// The history of the session in which nothing has happened yet. It is refused only for want of memory.
+    /// The history of the session in which nothing has happened yet.
     pub fn begun(
         alloc: Global,
         session: &'s Session,

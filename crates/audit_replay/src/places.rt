@@ -11,7 +11,7 @@ use base_types::Memory;
 use core_entries::Standing;
 use std::alloc::Global;
 
-/// Goes to where the uppermost level lies below the update at the place. It is refused only for want of memory.
+/// Goes to where the uppermost level lies below the update at the place.
 pub(crate) fn go_to(
     alloc: Global,
     levels: &mut Levels,
@@ -27,7 +27,7 @@ pub(crate) fn go_to(
     Ok(())
 }
 
-// Sinks until no more than so many levels are left above the lowest. It is refused only for want of memory.
+// Sinks until no more than so many levels are left above the lowest.
 fn sink_below(levels: &mut Levels, place: usize) -> Result<(), Memory>
     ensures stand { OnOk result (StandStill levels.old levels.new) }
     ensures most { OnOk result (length levels.new ≤ place + 1) }
@@ -38,7 +38,7 @@ fn sink_below(levels: &mut Levels, place: usize) -> Result<(), Memory>
     Ok(())
 }
 
-// Rises until so many levels are there above the lowest. It is refused only for want of memory.
+// Rises until so many levels are there above the lowest.
 fn rise_to(
     alloc: Global,
     levels: &mut Levels,
@@ -57,7 +57,7 @@ fn rise_to(
     Ok(())
 }
 
-/// What the update at the place may do next. It takes no memory.
+/// What the update at the place may do next.
 pub(crate) fn standing_at(updates: &[AuditedUpdate], settings: Settings, place: usize) -> Standing
     requires within { place < length updates.now }
     requires numbers { AreFrom 1 updates.now }
@@ -67,7 +67,7 @@ pub(crate) fn standing_at(updates: &[AuditedUpdate], settings: Settings, place: 
     audited.standing(settings, committed(updates), audited.number())
 }
 
-/// The updates above the one at the place. It takes no memory.
+/// The updates above the one at the place.
 pub(crate) fn above(updates: &[AuditedUpdate], place: usize) -> &[AuditedUpdate]
     requires within { place < length updates.now }
     ensures above { result.now ≡ drop (suc place) updates.now }

@@ -12,7 +12,7 @@ use base_types::{MappingList, Memory, Write};
 use chase_query::{Logged, Query, mentions};
 use std::alloc::Global;
 
-/// The relations of which the writes are, each once. It is refused only for want of memory.
+/// The relations of which the writes are, each once.
 pub(crate) fn relations_of(alloc: Global, writes: &[Write]) -> Result<Vec<u16>, Memory>
     ensures same { IfOk result (λ relations.
         AreRelationsOf (map change_of writes.now) relations.items) }
@@ -22,8 +22,7 @@ pub(crate) fn relations_of(alloc: Global, writes: &[Write]) -> Result<Vec<u16>, 
     Ok(relations)
 }
 
-/// Puts the relations of which the writes are behind the others, each that is none of them. It is refused only for want of
-/// memory.
+/// Puts the relations of which the writes are behind the others, each that is none of them.
 pub(crate) fn put_relations(relations: &mut Vec<u16>, writes: &[Write]) -> Result<(), Memory>
     ensures more { OnOk result
         (HasMore relations.old.items (map change_of writes.now) relations.new.items) }
@@ -34,7 +33,7 @@ pub(crate) fn put_relations(relations: &mut Vec<u16>, writes: &[Write]) -> Resul
     Ok(())
 }
 
-// Puts the relation behind the others, where it is none of them. It is refused only for want of memory.
+// Puts the relation behind the others, where it is none of them.
 fn put_relation(relations: &mut Vec<u16>, relation: u16) -> Result<(), Memory>
     ensures more { OnOk result (HasOneMore relations.old.items relation relations.new.items) }
 {
@@ -52,7 +51,7 @@ fn has(relations: &[u16], relation: u16) -> bool
     relations.iter().any(|known| *known == relation)
 }
 
-/// The relation of the tuple that is written. It takes no memory.
+/// The relation of the tuple that is written.
 pub(crate) fn relation_of(write: &Write) -> u16
     ensures relation { result ≡ relation_of_def (change_of write.now) }
 {
@@ -62,7 +61,7 @@ pub(crate) fn relation_of(write: &Write) -> u16
     }
 }
 
-/// Whether one of the entry's reads mentions one of the relations. It takes no memory.
+/// Whether one of the entry's reads mentions one of the relations.
 pub(crate) fn is_any_met(entry: &Logged, mappings: &MappingList, relations: &[u16]) -> bool
     ensures met { result ≡ any_met (rules_in mappings.now) relations.now (reads_of entry.now) }
 {
@@ -71,7 +70,7 @@ pub(crate) fn is_any_met(entry: &Logged, mappings: &MappingList, relations: &[u1
         .any(|relation| entry.mentions(mappings, *relation))
 }
 
-/// Whether the query mentions one of the relations. It takes no memory.
+/// Whether the query mentions one of the relations.
 pub(crate) fn is_met(query: &Query, mappings: &MappingList, relations: &[u16]) -> bool
     ensures met { result ≡ meets (rules_in mappings.now) relations.now (query_of query.now) }
 {

@@ -24,21 +24,21 @@ pub struct Replay<'s> {
 }
 
 impl<'s> Replay<'s> {
-    /// How many updates are admitted. It takes no memory.
+    /// How many updates are admitted.
     pub fn count(&self) -> usize
         ensures count { HasCount self.now result }
     {
         self.updates.len()
     }
 
-    /// Whether all updates that were handed in are admitted. It takes no memory.
+    /// Whether all updates that were handed in are admitted.
     pub fn is_whole(&self) -> bool
         ensures whole { IsWholeReplay self.now result }
     {
         self.updates.len() == self.handed.len()
     }
 
-    /// Whether nothing is ready, and nothing is deliverable. It takes no memory.
+    /// Whether nothing is ready, and nothing is deliverable.
     pub fn is_quiet(&self) -> bool
         requires replay { IsReplay self.now }
         ensures quiet { IsQuietReplay self.now result }
@@ -46,8 +46,8 @@ impl<'s> Replay<'s> {
         is_quiet(self.updates.as_slice(), self.settings)
     }
 
-    /// What the event does, and its entry; None exactly where it is not allowed, and then nothing is done. It is refused only
-    /// for want of memory; the replay is then one to be let go, of the same session, with its updates at their places.
+    /// What the event does, and its entry; None exactly where it is not allowed, and then nothing is done. If it is refused, the
+    /// replay is one to be dropped, of the same session, with its updates at their places.
     pub fn make(&mut self, alloc: Global, event: Event) -> Result<Option<Entry>, Memory>
         requires replay { IsReplay self.old }
         ensures made { IfOk result (HasMade event self.old self.new) }

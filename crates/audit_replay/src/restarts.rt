@@ -11,7 +11,7 @@ use base_types::Memory;
 use core_entries::CauseList;
 use std::alloc::Global;
 
-/// Restarts each of the updates from the place on that one of the causes is for. It is refused only for want of memory.
+/// Restarts each of the updates from the place on that one of the causes is for.
 pub(crate) fn restart_named(
     alloc: Global,
     updates: &mut [AuditedUpdate],

@@ -87,8 +87,7 @@ pub(crate) struct Prepared {
     pub(crate) causes: CauseList,
 }
 
-// The next step of the update at the place, which is ready and below which the uppermost level lies. It is refused only for
-// want of memory.
+// The next step of the update at the place, which is ready and below which the uppermost level lies.
 fn prepare(
     alloc: Global,
     levels: &mut Levels,
@@ -129,8 +128,7 @@ fn prepare(
     }
 }
 
-// The writes that the step of the plan shows, and why it restarts others, where the uppermost level lies below the update. It
-// is refused only for want of memory.
+// The writes that the step of the plan shows, and why it restarts others, where the uppermost level lies below the update.
 fn told_of_step(
     alloc: Global,
     levels: &mut Levels,
@@ -153,7 +151,7 @@ fn told_of_step(
     Ok((writes, causes))
 }
 
-// Makes the step at the place, and gives its entry. It is refused only for want of memory.
+// Makes the step at the place, and gives its entry.
 fn install(
     alloc: Global,
     updates: &mut [AuditedUpdate],
@@ -181,7 +179,7 @@ fn install(
     Ok(entry)
 }
 
-// The next step of the update, which is ready, over the facts below it. It is refused only for want of memory.
+// The next step of the update, which is ready, over the facts below it.
 fn planned(
     alloc: Global,
     chase: &Chase<'_>,
@@ -198,8 +196,8 @@ fn planned(
     planned_over(alloc, chase, facts, &mut with, audited)
 }
 
-// The next step of the update, which is ready, over the facts below it, where its own writes are made in an overlay of them. It
-// is refused only for want of memory; the overlay is then one to be let go.
+// The next step of the update, which is ready, over the facts below it, where its own writes are made in an overlay of them. If
+// it is refused, the overlay is one to be dropped.
 fn planned_over<'f>(
     alloc: Global,
     chase: &Chase<'_>,
@@ -235,8 +233,7 @@ fn planned_over<'f>(
     )
 }
 
-// Why the step of the plan restarts others, where the uppermost level lies below the update. It is refused only for want of
-// memory.
+// Why the step of the plan restarts others, where the uppermost level lies below the update.
 fn causes_of_step(
     alloc: Global,
     levels: &mut Levels,
@@ -265,7 +262,7 @@ fn causes_of_step(
     Ok(causes)
 }
 
-// Makes the step of the plan at the place, which restarts others for these causes. It is refused only for want of memory.
+// Makes the step of the plan at the place, which restarts others for these causes.
 fn make_step(
     alloc: Global,
     updates: &mut [AuditedUpdate],
@@ -309,7 +306,7 @@ fn step_entry(
     }
 }
 
-// Copies of the writes. It is refused only for want of memory.
+// Copies of the writes.
 fn copies(alloc: Global, writes: &[Write]) -> Result<WriteList, Memory>
     ensures same { IfOk result (λ copies. map change_of copies.items ≡ map change_of writes.now) }
 {

@@ -63,8 +63,7 @@ impl<'s> Replay<'s> {
     }
 }
 
-// Why the withdrawal of the update at the place, below which the uppermost level lies, restarts others. It is refused only
-// for want of memory.
+// Why the withdrawal of the update at the place, below which the uppermost level lies, restarts others.
 fn prepare(
     alloc: Global,
     levels: &mut Levels,
@@ -94,7 +93,7 @@ fn prepare(
     Ok(causes)
 }
 
-// Withdraws the update at the place, and gives the entry. It is refused only for want of memory.
+// Withdraws the update at the place, and gives the entry.
 fn remove(
     alloc: Global,
     updates: &mut [AuditedUpdate],
@@ -113,7 +112,7 @@ fn remove(
     Ok(entry)
 }
 
-// Withdraws the update at the place, which restarts others for these causes. It is refused only for want of memory.
+// Withdraws the update at the place, which restarts others for these causes.
 fn make_withdrawal(
     alloc: Global,
     updates: &mut [AuditedUpdate],

@@ -27,7 +27,7 @@ fn with_line(
     Ok(more)
 }
 
-/// The line of an entry, with its line feed. It is refused only for want of memory.
+/// The line of an entry, with its line feed.
 pub fn entry_line(alloc: Global, schema: &Schema, entry: &Entry) -> Result<Vec<u8>, Memory>
     ensures line { IfOk result (λ line.
         line.items ≡ line_of_entry schema.now (entry_of entry.now)) }
@@ -62,7 +62,7 @@ fn with_lines(
     Ok(text)
 }
 
-/// The text of a trace: `trace N`, and the lines of the N entries. It is refused only for want of memory.
+/// The text of a trace: `trace N`, and the lines of the N entries.
 pub fn trace_text(alloc: Global, schema: &Schema, history: &[Entry]) -> Result<Vec<u8>, Memory>
     ensures text { IfOk result (λ text.
         text.items ≡ text_of_trace schema.now (map entry_of history.now)) }

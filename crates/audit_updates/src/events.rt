@@ -14,8 +14,7 @@ use std::collections::VecDeque;
 use std::mem;
 
 impl AuditedUpdate {
-    /// The update of this number as it is when it is admitted, with these answers recorded for it. It is refused only for
-    /// want of memory.
+    /// The update of this number as it is when it is admitted, with these answers recorded for it.
     pub fn admit(
         alloc: Global,
         update: &Update,
@@ -35,8 +34,7 @@ impl AuditedUpdate {
         })
     }
 
-    /// Makes the step of the plan: its attempt and its reads are taken over. It is refused only for want of memory; the update is
-    /// then as it was.
+    /// Makes the step of the plan: its attempt and its reads are taken over. If it is refused, the update is as it was.
     pub fn step(&mut self, plan: Plan) -> Result<(), Memory>
         ensures stepped { OnOk result (HasStepped plan self.old self.new) }
         ensures place { OnOk result (KeepsPlaceBy plan self.old self.new) }
@@ -63,7 +61,7 @@ impl AuditedUpdate {
         take_over(&mut self.log, reads)
     }
 
-    /// Delivers the first recorded answer, if there is one. It is refused only for want of memory; the update is then as it was.
+    /// Delivers the first recorded answer, if there is one. If it is refused, the update is as it was.
     pub fn deliver(&mut self) -> Result<(), Memory>
         ensures delivered { OnOk result (HasDelivered self.old self.new) }
         ensures place { OnOk result (KeepsPlace self.old self.new) }
@@ -77,8 +75,8 @@ impl AuditedUpdate {
         Ok(())
     }
 
-    /// Puts the choice where the attempt waits for an answer; answers that were delivered for later questions are
-    /// dropped. It is refused only for want of memory; the update is then as it was.
+    /// Puts the choice where the attempt waits for an answer; answers that were delivered for later questions are dropped. If it
+    /// is refused, the update is as it was.
     pub fn answer(&mut self, alloc: Global, choice: Choice) -> Result<(), Memory>
         ensures answered { OnOk result (HasAnswered choice self.old self.new) }
         ensures place { OnOk result (KeepsPlace self.old self.new) }
@@ -89,7 +87,7 @@ impl AuditedUpdate {
         Ok(())
     }
 
-    /// Withdraws the update: it loses its trail and its log. It takes no memory.
+    /// Withdraws the update: it loses its trail and its log.
     pub fn withdraw(&mut self)
         ensures withdrawn { HasWithdrawn self.old self.new }
         ensures place { KeepsPlace self.old self.new }
@@ -99,14 +97,14 @@ impl AuditedUpdate {
     }
 }
 
-// Puts the attempt in the place of another one, which is let go. It takes no memory.
+// Puts the attempt in the place of another one, which is let go.
 pub(crate) fn renew(place: &mut Attempt, fresh: Attempt)
     ensures fresh { place.new ≡ fresh }
 {
     drop(mem::replace(place, fresh));
 }
 
-// Copies of the answers as a queue. It is refused only for want of memory.
+// Copies of the answers as a queue.
 fn queued(alloc: Global, answers: &ChoiceList) -> Result<VecDeque<Choice>, Memory>
     ensures same { IfOk result (λ queue.
         map choice_of queue.items ≡ map choice_of answers.now.items) }
@@ -130,8 +128,7 @@ fn take_over(log: &mut ReadLog, reads: ReadLog) -> Result<(), Memory>
     Ok(())
 }
 
-// Puts the choice behind so many of the answers, in place of all others. It is refused only for want of memory; the answers
-// are then as they were.
+// Puts the choice behind so many of the answers, in place of all others. If it is refused, the answers are as they were.
 fn put_at(
     alloc: Global,
     answers: &mut ChoiceList,

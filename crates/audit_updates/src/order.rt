@@ -7,7 +7,7 @@ ghost use Rattle.audit_updates.specs.Order.{HasCommitted, IsFirstReady, IsFirstD
 use crate::settings::Settings;
 use crate::updates::AuditedUpdate;
 
-/// How many updates are committed: the longest prefix of those that are over. It takes no memory.
+/// How many updates are committed: the longest prefix of those that are over.
 pub fn committed(updates: &[AuditedUpdate]) -> u32
     requires from { AreFrom 1 updates.now }
     ensures committed { HasCommitted updates.now result }
@@ -22,7 +22,7 @@ pub fn committed(updates: &[AuditedUpdate]) -> u32
     count
 }
 
-/// Whether nothing is ready, and nothing is deliverable. It takes no memory.
+/// Whether nothing is ready, and nothing is deliverable.
 pub fn is_quiet(updates: &[AuditedUpdate], settings: Settings) -> bool
     requires from { AreFrom 1 updates.now }
     ensures quiet { IsQuiet (settings_of settings) updates.now result }

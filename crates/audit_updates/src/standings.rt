@@ -21,8 +21,8 @@ use chase_update::{Lack, Outcome};
 use core_entries::Standing;
 
 impl AuditedUpdate {
-    /// The next answer for the attempt: there is one only where it is at a question. A ready update wants its next step
-    /// with just this. It takes no memory.
+    /// The next answer for the attempt: there is one only where it is at a question. A ready update wants its next step with just
+    /// this.
     pub fn next_answer(&self) -> Option<&Choice>
         requires between { IsBetween self.now.program }
         ensures next { HasNext self.now (option_map choice_of (option_copied result)) }
@@ -35,7 +35,7 @@ impl AuditedUpdate {
         }
     }
 
-    /// What the update may do next, where so many updates are committed and it has this number. It takes no memory.
+    /// What the update may do next, where so many updates are committed and it has this number.
     pub fn standing(&self, settings: Settings, committed: u32, number: u32) -> Standing
         requires between { IsBetween self.now.program }
         ensures standing { HasStanding (settings_of settings) committed number self.now result }
@@ -49,7 +49,7 @@ impl AuditedUpdate {
         }
     }
 
-    /// Whether the update may make a step. It takes no memory.
+    /// Whether the update may make a step.
     pub fn is_ready(&self, settings: Settings, committed: u32, number: u32) -> bool
         requires between { IsBetween self.now.program }
         ensures ready { IsReady (settings_of settings) committed number self.now result }
@@ -57,7 +57,7 @@ impl AuditedUpdate {
         is_ready(self.standing(settings, committed, number))
     }
 
-    /// Whether a recorded answer may be delivered to the update: it is pending, and has one. It takes no memory.
+    /// Whether a recorded answer may be delivered to the update: it is pending, and has one.
     pub fn is_deliverable(&self, settings: Settings, committed: u32, number: u32) -> bool
         requires between { IsBetween self.now.program }
         ensures deliverable { IsDeliverable (settings_of settings) committed number self.now
@@ -68,7 +68,7 @@ impl AuditedUpdate {
         pending && recorded
     }
 
-    /// Whether the update may be answered so: it is paused, and the choice answers its question. It takes no memory.
+    /// Whether the update may be answered so: it is paused, and the choice answers its question.
     pub fn takes(&self, settings: Settings, committed: u32, number: u32, choice: &Choice) -> bool
         requires between { IsBetween self.now.program }
         ensures takes { Takes (settings_of settings) committed number (choice_of choice.now)
@@ -120,7 +120,7 @@ impl AuditedUpdate {
         !self.inbox.is_empty()
     }
 
-    /// What is lacking at the question, if it is at one and something is. It takes no memory.
+    /// What is lacking at the question, if it is at one and something is.
     pub fn lack(&self) -> Option<Lack>
         requires between { IsBetween self.now.program }
         ensures lack { HasLack self.now (option_map lack_of result) }

@@ -25,8 +25,8 @@ use lang_schema::Schema;
 use lang_session::Session;
 use std::alloc::Global;
 
-/// Whether the bytes are the text of a legal history over the session by these terms that begins with the admissions of all
-/// its updates; else the first line at fault, with the first cause that holds. It is refused only for want of memory.
+/// Whether the bytes are the text of a legal history over the session by these terms that begins with the admissions of all its
+/// updates; else the first line at fault, with the first cause that holds.
 pub fn audit(
     alloc: Global,
     session: &Session,
@@ -159,7 +159,7 @@ fn admission_of(replay: &Replay<'_>, update: u32) -> Option<Event>
     Some(Event::Admits)
 }
 
-// Whether the line is the text of the entry, which is let go. It is refused only for want of memory.
+// Whether the line is the text of the entry, which is let go.
 fn tells(alloc: Global, schema: &Schema, entry: Entry, line: &[u8]) -> Result<bool, Memory>
     ensures tells { IfOk result (λ same. IsTrue same ↔
         (line.now ++ 10 ∷ [] ≡ entry_line schema.now (entry_of entry))) }
@@ -171,7 +171,7 @@ fn tells(alloc: Global, schema: &Schema, entry: Entry, line: &[u8]) -> Result<bo
     }
 }
 
-// The text of the entry, which is let go. It is refused only for want of memory.
+// The text of the entry, which is let go.
 fn text_of(alloc: Global, schema: &Schema, entry: Entry) -> Result<Vec<u8>, Memory>
     ensures line { IfOk result (λ text. text.items ≡ entry_line schema.now (entry_of entry)) }
 {

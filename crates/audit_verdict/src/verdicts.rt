@@ -22,7 +22,7 @@ pub enum Verdict {
     No { line: u64, why: Why },
 }
 
-/// The line that tells the verdict, without its line feed. It is refused only for want of memory.
+/// The line that tells the verdict, without its line feed.
 pub fn verdict_line(alloc: Global, verdict: Verdict) -> Result<Vec<u8>, Memory>
     ensures line { IfOk result (λ line. line.items ≡ verdict_text (verdict_of verdict)) }
 {

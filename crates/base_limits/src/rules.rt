@@ -28,7 +28,7 @@ impl<'a> Model for Mappings<'a> {
 }
 
 impl<'a> Mappings<'a> {
-    /// The mappings of the list, which are within the limits. It takes no memory.
+    /// The mappings of the list, which are within the limits.
     pub fn of(list: &'a MappingList) -> Mappings<'a>
         requires within { AreWithin (map rule_of list.now.items) }
         ensures rules { result ≡ map rule_of list.now.items }

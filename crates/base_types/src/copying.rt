@@ -12,7 +12,7 @@ pub trait TryCopy: Drop {
 
     ghost meaning: { Self → Meaning };
 
-    /// A copy that means the same. It is refused only for want of memory.
+    /// A copy that means the same.
     fn copy(&self, alloc: Global) -> Result<Self, Memory>
         ensures same { IfOk result (λ copy. meaning copy ≡ meaning self.now) };
 }

@@ -44,7 +44,7 @@ impl<T> Model for List<T> {
 }
 
 impl<T> List<T> {
-    /// The empty list. It takes no memory.
+    /// The empty list.
     pub fn new(alloc: Global) -> List<T>
         ensures empty { result.items ≡ [] }
     {
@@ -53,14 +53,14 @@ impl<T> List<T> {
         }
     }
 
-    /// The items of a vector, which it takes over. It takes no memory.
+    /// The items of a vector, which it takes over.
     pub fn from_vec(items: Vec<T>) -> List<T>
         ensures same { result.items ≡ items.items }
     {
         List { items }
     }
 
-    /// The items as a vector. It takes no memory.
+    /// The items as a vector.
     pub fn into_vec(self) -> Vec<T>
         ensures same { result.items ≡ self.items }
     {
@@ -96,8 +96,8 @@ impl<T> List<T> {
         self.items.as_slice()
     }
 
-    /// Puts an item at the end. It is refused only for want of memory, never where `spare` is at least 1; it
-    /// then hands the item back, and the list is unchanged.
+    /// Puts an item at the end. It is never refused if `spare` is at least 1. If it is refused, it hands the item back, and the
+    /// list is unchanged.
     pub fn push(&mut self, item: T) -> Result<(), (T, Memory)>
         ensures ok { OnOk result (self.new.items ≡ self.old.items ++ item ∷ []) }
         ensures err { OnErr result (self.new.items ≡ self.old.items) }
@@ -111,7 +111,7 @@ impl<T> List<T> {
         }
     }
 
-    /// Makes room for so many more items. It is refused only for want of memory. The items stay as they are.
+    /// Makes room for so many more items. The items stay as they are.
     pub fn reserve(&mut self, more: usize) -> Result<(), Memory>
         ensures room { OnOk result (more ≤ self.new.spare) }
         ensures same { self.new.items ≡ self.old.items }
@@ -123,8 +123,8 @@ impl<T> List<T> {
         }
     }
 
-    /// Moves all items of another list behind its own. It is refused only for want of memory, never where `spare` is at
-    /// least as many as they are; both lists are then unchanged.
+    /// Moves all items of another list behind its own. It is never refused if `spare` is at least as many as they are. If it is
+    /// refused, both lists are unchanged.
     pub fn append(&mut self, other: &mut List<T>) -> Result<(), Memory>
         ensures ok { OnOk result (self.new.items ≡ self.old.items ++ other.old.items) }
         ensures moved { OnOk result (other.new.items ≡ []) }
@@ -139,7 +139,7 @@ impl<T> List<T> {
         }
     }
 
-    /// Takes the last item away and gives it; None exactly where the list is empty. It takes no memory.
+    /// Takes the last item away and gives it; None exactly where the list is empty.
     pub fn pop(&mut self) -> Option<T>
         ensures last { IfSome result (λ item. self.old.items ≡ self.new.items ++ item ∷ []) }
         ensures empty { IfNone result (self.old.items ≡ []) }
@@ -150,7 +150,7 @@ impl<T> List<T> {
 }
 
 impl<T: Drop> List<T> {
-    /// Puts an item in place of the one that stands there. It takes no memory.
+    /// Puts an item in place of the one that stands there.
     pub fn put(&mut self, index: usize, item: T)
         requires { index < length self.old.items }
         ensures items { self.new.items ≡ slice_set self.old.items index item }
@@ -158,7 +158,7 @@ impl<T: Drop> List<T> {
         self.items[index] = item;
     }
 
-    /// Takes all items away. It takes no memory.
+    /// Takes all items away.
     pub fn clear(&mut self)
         ensures empty { self.new.items ≡ [] }
     {

@@ -12,7 +12,7 @@ use def_memory::Memory;
 use std::alloc::Global;
 
 impl Value {
-    /// The outer form: the same value, with attempt 0 in a null. It is refused only for want of memory.
+    /// The outer form: the same value, with attempt 0 in a null.
     pub fn outer(&self, alloc: Global) -> Result<Value, Memory>
         ensures same { IfOk result (λ form. datum_of form ≡ outer_datum (datum_of self.now)) }
     {
@@ -27,7 +27,7 @@ impl Value {
         }
     }
 
-    /// Whether the two have one outer form. It takes no memory.
+    /// Whether the two have one outer form.
     pub fn outer_eq(&self, other: &Value) -> bool
         ensures answer { result ≡ same_datum (outer_datum (datum_of self.now))
             (outer_datum (datum_of other.now)) }
@@ -47,8 +47,7 @@ impl Value {
 }
 
 impl Tuple {
-    /// The outer form: the same tuple, with attempt 0 in each null. It is refused only for want of memory.
-    /// A tuple that is its own outer form is shared.
+    /// The outer form: the same tuple, with attempt 0 in each null. A tuple that is its own outer form is shared.
     pub fn outer(&self, alloc: Global) -> Result<Tuple, Memory>
         ensures same { IfOk result (λ form. fact_of form ≡ outer (fact_of self.now)) }
     {
@@ -71,7 +70,7 @@ impl Tuple {
         Tuple::new(alloc, self.relation, values)
     }
 
-    /// Whether the two have one outer form. It takes no memory.
+    /// Whether the two have one outer form.
     pub fn outer_eq(&self, other: &Tuple) -> bool
         ensures answer { result ≡ same_fact (outer (fact_of self.now)) (outer (fact_of other.now)) }
     {

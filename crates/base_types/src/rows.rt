@@ -36,14 +36,14 @@ impl Model for Row {
 }
 
 impl Row {
-    /// No values. It takes no memory.
+    /// No values.
     pub fn empty() -> Row
         ensures empty { result.items ≡ [] }
     {
         Row { values: None }
     }
 
-    /// The row of these values. It is refused only for want of memory.
+    /// The row of these values.
     pub fn new(alloc: Global, values: ValueList) -> Result<Row, Memory>
         ensures same { IfOk result (λ row. row.items ≡ values.items) }
     {

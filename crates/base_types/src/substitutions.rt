@@ -38,7 +38,7 @@ impl Model for Sub {
 }
 
 impl Sub {
-    /// The map that moves no null. It takes no memory.
+    /// The map that moves no null.
     pub fn new(alloc: Global) -> Sub
         ensures empty { images_of result ≡ no_image }
     {
@@ -58,8 +58,7 @@ impl Sub {
         }
     }
 
-    /// Gives the null this image, in place of the one that it had. It is refused only for want of memory; the map
-    /// is then unchanged.
+    /// Gives the null this image, in place of the one that it had. If it is refused, the map is unchanged.
     pub fn set(&mut self, null: Null, value: Value) -> Result<(), Memory>
         ensures ok { OnOk result (images_of self.new ≡
             give_image (images_of self.old) (null_of null) (datum_of value)) }

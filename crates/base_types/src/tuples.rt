@@ -28,7 +28,7 @@ pub struct Tuple {
 }
 
 impl Tuple {
-    /// The tuple of the relation with these values. It is refused only for want of memory.
+    /// The tuple of the relation with these values.
     pub fn new(alloc: Global, relation: u16, values: ValueList) -> Result<Tuple, Memory>
         ensures tuple { IfOk result (λ tuple. fact_of tuple ≡
             record { relation = relation; values = map datum_of values.items }) }
@@ -49,7 +49,7 @@ impl Tuple {
         })
     }
 
-    /// The tuple of the relation without values, which is its least one. It takes no memory.
+    /// The tuple of the relation without values, which is its least one.
     pub fn least(relation: u16) -> Tuple
         ensures least { fact_of result ≡ record { relation = relation; values = [] } }
     {

@@ -23,8 +23,7 @@ pub(crate) struct Writes<'a> {
     pub(crate) enacts: bool,
 }
 
-/// The value of the query over the set, where these violations count. The own writes stand in it. It is refused only for
-/// want of memory.
+/// The value of the query over the set, where these violations count. The own writes stand in it.
 pub(crate) fn value_over<F: Facts>(
     alloc: Global,
     query: &Query,

@@ -46,7 +46,7 @@ impl<'a, F: Facts> Model for AppliedView<'a, F> {
 }
 
 impl<'a, F: Facts> AppliedView<'a, F> {
-    /// The set below these own writes, where `with` is that set with them. It takes no memory.
+    /// The set below these own writes, where `with` is that set with them.
     pub fn new(below: &'a F, with: &'a F, own: &'a WriteList) -> AppliedView<'a, F>
         requires applied { F.tuples with.now ≡ apply (F.tuples below.now) (changes_of own.now) }
         ensures seen { result ≡ record { below = F.tuples below.now; own = changes_of own.now } }
@@ -59,9 +59,9 @@ impl<'a, F: Facts> AppliedView<'a, F> {
         }
     }
 
-    /// The value of the query, where of violations only those count that the own writes caused in the direction.
-    /// Forward, a mapping that they put in force is looked at whole; one that is not in the list has no violation. A
-    /// settled mapping is not searched, and one without a violation is settled. It is refused only for want of memory.
+    /// The value of the query, where of violations only those count that the own writes caused in the direction. Forward, a
+    /// mapping that they put in force is looked at whole; one that is not in the list has no violation. A settled mapping is not
+    /// searched, and one without a violation is settled.
     pub fn eval(
         &self,
         query: &Query,

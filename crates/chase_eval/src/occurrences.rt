@@ -6,8 +6,7 @@ ghost use Rattle.base_types.specs.Meanings.{fact_of};
 use base_types::{Facts, List, Memory, TryCopy, TupleList};
 use std::alloc::Global;
 
-/// The tuples that hold a null drawn by this update at this place, by whatever attempt, in order. It is refused only
-/// for want of memory.
+/// The tuples that hold a null drawn by this update at this place, by whatever attempt, in order.
 pub(crate) fn occurrences<F: Facts>(
     alloc: Global,
     update: u32,

@@ -107,8 +107,8 @@ fn is_alone(values: &[Value], number: u16) -> bool
     values == alone.as_slice()
 }
 
-/// The image of the mapping's first violation among those that count, or that there is none; where there is no
-/// mapping there is none. It is refused only for want of memory.
+/// The image of the mapping's first violation among those that count, or that there is none; where there is no mapping there is
+/// none.
 pub(crate) fn first_image<F: Facts>(
     alloc: Global,
     mapping: Option<&Mapping>,

@@ -29,7 +29,7 @@ impl Model for Settled {
 }
 
 impl Settled {
-    /// So many mappings, all of them settled. It is refused only for want of memory.
+    /// So many mappings, all of them settled.
     pub fn all(alloc: Global, count: usize) -> Result<Settled, Memory>
         ensures all { IfOk result (λ settled. settled ≡ replicate count true) }
     {
@@ -39,7 +39,7 @@ impl Settled {
         }
     }
 
-    /// So many mappings, none of them settled. It is refused only for want of memory.
+    /// So many mappings, none of them settled.
     pub fn none(alloc: Global, count: usize) -> Result<Settled, Memory>
         ensures none { IfOk result (λ settled. settled ≡ replicate count false) }
     {
@@ -49,7 +49,7 @@ impl Settled {
         }
     }
 
-    /// Another one with the same marks. It is refused only for want of memory.
+    /// Another one with the same marks.
     pub fn copy(&self, alloc: Global) -> Result<Settled, Memory>
         ensures same { IfOk result (λ copy. copy ≡ self.now) }
     {

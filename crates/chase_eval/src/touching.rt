@@ -22,7 +22,7 @@ pub struct Touching {
 }
 
 impl Touching {
-    /// Those of these mappings. It is refused only for want of memory.
+    /// Those of these mappings.
     pub fn of(alloc: Global, mappings: &MappingList) -> Result<Touching, Memory>
         ensures touching { IfOk result (IsTouching (rules_in mappings.now)) }
     {

@@ -11,9 +11,8 @@ use base_types::{Direction, Facts, MappingList, Memory, WriteList};
 use chase_query::{Query, Reply};
 use std::alloc::Global;
 
-/// The value of the query over the set with the own writes applied, where of violations only those count that they
-/// caused in the direction. Forward, a mapping that they put in force is looked at whole; one that is not in the list
-/// has no violation. It is refused only for want of memory.
+/// The value of the query over the set with the own writes applied, where of violations only those count that they caused in the
+/// direction. Forward, a mapping that they put in force is looked at whole; one that is not in the list has no violation.
 pub fn eval<F: Facts>(
     alloc: Global,
     query: &Query,
@@ -31,8 +30,8 @@ pub fn eval<F: Facts>(
     view.eval(query, mappings, direction, alloc)
 }
 
-/// The value of the query over the set with the own writes applied, where every violation counts. A mapping that is
-/// not in the list has none. It is refused only for want of memory.
+/// The value of the query over the set with the own writes applied, where every violation counts. A mapping that is not in the
+/// list has none.
 pub fn eval_all<F: Facts>(
     alloc: Global,
     query: &Query,

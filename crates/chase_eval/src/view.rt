@@ -45,7 +45,7 @@ impl<'a, F: Facts> Model for View<'a, F> {
 }
 
 impl<'a, F: Facts> View<'a, F> {
-    /// The set before any own write. It takes no memory.
+    /// The set before any own write.
     pub fn new(alloc: Global, below: &'a F) -> View<'a, F>
         ensures before { result ≡ record { below = F.tuples below.now; own = [] } }
     {
@@ -57,7 +57,7 @@ impl<'a, F: Facts> View<'a, F> {
         }
     }
 
-    /// Adds an own write. It is refused only for want of memory; the view is then the same.
+    /// Adds an own write. If it is refused, the view is the same.
     pub fn write(&mut self, alloc: Global, write: &Write) -> Result<(), Memory>
         ensures ok { OnOk result (self.new ≡ written self.old (change_of write.now ∷ [])) }
         ensures err { OnErr result (self.new ≡ self.old) }
@@ -70,8 +70,7 @@ impl<'a, F: Facts> View<'a, F> {
         Ok(())
     }
 
-    /// Adds own writes in turn. It is refused only for want of memory; the first so many of them are then added, and the
-    /// others are not.
+    /// Adds own writes in turn. If it is refused, the first so many of them are added, and the others are not.
     pub fn write_all(&mut self, alloc: Global, writes: &[Write]) -> Result<(), Memory>
         ensures ok { OnOk result (self.new ≡ written self.old (map change_of writes.now)) }
         ensures err { OnErr result
@@ -83,9 +82,8 @@ impl<'a, F: Facts> View<'a, F> {
         Ok(())
     }
 
-    /// The value of the query, where of violations only those count that the own writes caused in the direction.
-    /// Forward, a mapping that they put in force is looked at whole; one that is not in the list has no violation. It
-    /// is refused only for want of memory.
+    /// The value of the query, where of violations only those count that the own writes caused in the direction. Forward, a
+    /// mapping that they put in force is looked at whole; one that is not in the list has no violation.
     pub fn eval(
         &self,
         query: &Query,
@@ -100,8 +98,7 @@ impl<'a, F: Facts> View<'a, F> {
         self.value(query, mappings, Counted::Caused(direction), alloc)
     }
 
-    /// The value of the query, where every violation counts. A mapping that is not in the list has none. It is
-    /// refused only for want of memory.
+    /// The value of the query, where every violation counts. A mapping that is not in the list has none.
     pub fn eval_all(
         &self,
         query: &Query,

@@ -54,7 +54,7 @@ impl<'a, F: Facts> Model for WatchedView<'a, F> {
 }
 
 impl<'a, F: Facts> WatchedView<'a, F> {
-    /// The set before any own write: no violation is caused yet. It is refused only for want of memory.
+    /// The set before any own write: no violation is caused yet.
     pub fn new(
         alloc: Global,
         below: &'a F,
@@ -96,7 +96,7 @@ impl<'a, F: Facts> WatchedView<'a, F> {
         })
     }
 
-    /// Adds an own write. It is refused only for want of memory; the view is then the same.
+    /// Adds an own write. If it is refused, the view is the same.
     pub fn write(&mut self, alloc: Global, write: &Write) -> Result<(), Memory>
         ensures ok { OnOk result (self.new ≡ watched_on self.old (change_of write.now ∷ [])) }
         ensures err { OnErr result (self.new ≡ self.old) }
@@ -106,8 +106,7 @@ impl<'a, F: Facts> WatchedView<'a, F> {
         Ok(())
     }
 
-    /// Adds own writes in turn. It is refused only for want of memory; the first so many of them are then added, and the
-    /// others are not.
+    /// Adds own writes in turn. If it is refused, the first so many of them are added, and the others are not.
     pub fn write_all(&mut self, alloc: Global, writes: &[Write]) -> Result<(), Memory>
         ensures ok { OnOk result (self.new ≡ watched_on self.old (map change_of writes.now)) }
         ensures err { OnErr result
@@ -119,9 +118,8 @@ impl<'a, F: Facts> WatchedView<'a, F> {
         Ok(())
     }
 
-    /// The value of the query, where of violations only those count that the own writes caused in the direction.
-    /// Forward, a mapping that they put in force is looked at whole; one that is not in the list has no violation. It
-    /// is refused only for want of memory.
+    /// The value of the query, where of violations only those count that the own writes caused in the direction. Forward, a
+    /// mapping that they put in force is looked at whole; one that is not in the list has no violation.
     pub fn eval(&mut self, query: &Query, alloc: Global) -> Result<Reply, Memory>
         ensures value { IfOk result (λ answer. reply_of answer ≡
             value_in self.old (query_of query.now)) }
@@ -137,7 +135,7 @@ impl<'a, F: Facts> WatchedView<'a, F> {
         Ok(answer)
     }
 
-    /// A mark for each mapping by number that is settled: it has no violation that counts. It takes no memory.
+    /// A mark for each mapping by number that is settled: it has no violation that counts.
     pub fn settled(&self) -> &[bool]
         ensures nothing { AreSettled self.now result.now }
     {

@@ -47,8 +47,7 @@ pub struct Footing<'a, F: Facts> {
 
 /// The next step of the attempt on its footing, with the answer where it is at a question. It is made on the branch, a copy of
 /// the attempt, which stays as it is. `settled` is the mappings of which it is known that they have no violation that the
-/// attempt's writes caused; those of which it is known after the step are put in their place. It is refused only for want of
-/// memory.
+/// attempt's writes caused; those of which it is known after the step are put in their place.
 pub fn plan_step<F: Facts>(
     alloc: Global,
     program: &Attempt,

@@ -16,9 +16,9 @@ use chase_update::Attempt;
 use std::alloc::Global;
 
 /// The mappings of which the last reads of the attempt tell that its writes have caused no violation, and before its first write
-/// all of them, but for those to which a write since then may have given one; none where the attempt is not looking for violations.
-/// That is so over any tuples over which its reads are valid, as they are over what lies below an update at any moment of a history.
-/// It is refused only for want of memory.
+/// all of them, but for those to which a write since then may have given one; none where the attempt is not looking for
+/// violations. That is so over any tuples over which its reads are valid, as they are over what lies below an update at any
+/// moment of a history.
 pub fn settled_by(
     alloc: Global,
     mappings: &TouchedMappings<'_>,
@@ -37,7 +37,7 @@ pub fn settled_by(
     Ok(settled)
 }
 
-/// The same, whether the attempt is looking for violations or not. It is refused only for want of memory.
+/// The same, whether the attempt is looking for violations or not.
 pub fn told_by(
     alloc: Global,
     mappings: &TouchedMappings<'_>,
@@ -56,7 +56,6 @@ pub fn told_by(
 }
 
 /// Takes away the marks of the mappings to which one of the attempt's writes behind the first so many may have given a violation.
-/// It takes no memory.
 pub fn stir_since(
     settled: &mut Settled,
     mappings: &TouchedMappings<'_>,
@@ -79,7 +78,7 @@ fn made_before(log: &[Logged]) -> u64 {
 }
 
 // The marks to begin with, where so many writes had been made: before the first of them no mapping has a violation that they
-// caused, and of later ones nothing is known. It is refused only for want of memory.
+// caused, and of later ones nothing is known.
 fn begun(alloc: Global, mappings: &TouchedMappings<'_>, made: u64) -> Result<Settled, Memory>
     ensures begun { IfOk result (λ settled. (D : List Fact) (P : AttemptMeant) →
         HasSettledBy made mappings.now D P settled) }
@@ -137,7 +136,7 @@ fn note_passage(settled: &mut Settled, passage: &Passage)
     }
 }
 
-/// The writes behind the first so many. It takes no memory.
+/// The writes behind the first so many.
 pub fn since(own: &[Write], made: u64) -> &[Write]
     ensures since { map change_of result.now ≡ drop made (map change_of own.now) }
 {

@@ -31,7 +31,7 @@ impl<'a> Model for TouchedMappings<'a> {
 }
 
 impl<'a> TouchedMappings<'a> {
-    /// These mappings. It is refused only for want of memory.
+    /// These mappings.
     pub fn of(alloc: Global, mappings: Mappings<'a>) -> Result<TouchedMappings<'a>, Memory>
         ensures rules { IfOk result (λ touched. touched ≡ mappings.entry) }
     {
@@ -42,28 +42,28 @@ impl<'a> TouchedMappings<'a> {
         })
     }
 
-    /// The mappings. It takes no memory.
+    /// The mappings.
     pub fn all(&self) -> &Mappings<'a>
         ensures rules { result.now ≡ self.now }
     {
         &self.all
     }
 
-    /// The list that they stand in. It takes no memory.
+    /// The list that they stand in.
     pub fn list(&self) -> &'a MappingList
         ensures rules { map rule_of result.now.items ≡ self.now }
     {
         self.all.list()
     }
 
-    /// For each relation the mappings that a write of it may give a violation. It takes no memory.
+    /// For each relation the mappings that a write of it may give a violation.
     pub fn touching(&self) -> &Touching
         ensures touching { IsTouching self.now result.now }
     {
         &self.touching
     }
 
-    /// Takes away the marks of the mappings to which one of the writes may give a violation. It takes no memory.
+    /// Takes away the marks of the mappings to which one of the writes may give a violation.
     pub fn stir(&self, settled: &mut Settled, writes: &[Write])
         ensures left { LoseMarksTo (map change_of writes.now) self.now settled.old settled.new }
     {

@@ -54,7 +54,7 @@ impl TryCopy for LoggedRead {
 }
 
 impl Logged {
-    /// How many writes the attempt had made before. It takes no memory.
+    /// How many writes the attempt had made before.
     pub fn own(&self) -> u64
         ensures own { result ≡ own_of self.now }
     {
@@ -65,7 +65,7 @@ impl Logged {
     }
 
     /// How many reads there are up to its last, where so many come before it. It is refused where that is more than a `u64`
-    /// holds, which is more than any memory does. It takes no memory.
+    /// holds, which is more than any memory does.
     pub fn count_on(&self, before: u64) -> Result<u64, Memory>
         ensures counted { IfOk result (λ all. all ≡ before + length (reads_of self.now)) }
     {
@@ -85,7 +85,7 @@ impl Logged {
         }
     }
 
-    /// Whether one of the reads mentions the relation. It takes no memory.
+    /// Whether one of the reads mentions the relation.
     pub fn mentions(&self, mappings: &MappingList, relation: u16) -> bool
         ensures answer { result ≡
             list_any (mentioned (rules_in mappings.now) relation) (reads_of self.now) }
@@ -119,7 +119,7 @@ impl Passage {
     }
 }
 
-/// The read that the mapping of this number has no violation, by an attempt that had made so many writes. It takes no memory.
+/// The read that the mapping of this number has no violation, by an attempt that had made so many writes.
 pub fn finds_none(number: u16, own: u64) -> LoggedRead
     ensures read { read_of result ≡ finds_none_def number own }
 {

@@ -37,9 +37,8 @@ impl TryCopy for Query {
     }
 }
 
-/// Whether the query mentions the relation: only tuples of the relations that it mentions decide its value. A
-/// violation mentions the relations on both sides of its mapping, and an occurrence mentions every relation. It
-/// takes no memory.
+/// Whether the query mentions the relation: only tuples of the relations that it mentions decide its value. A violation mentions
+/// the relations on both sides of its mapping, and an occurrence mentions every relation.
 pub fn mentions(query: &Query, mappings: &MappingList, relation: u16) -> bool
     ensures answer { result ≡ mentions_def (map rule_of mappings.now.items)
         (query_of query.now) relation }
@@ -52,7 +51,7 @@ pub fn mentions(query: &Query, mappings: &MappingList, relation: u16) -> bool
     }
 }
 
-/// Whether the query for the first violation of the mapping of this number mentions the relation. It takes no memory.
+/// Whether the query for the first violation of the mapping of this number mentions the relation.
 pub(crate) fn violation_mentions(number: u16, mappings: &MappingList, relation: u16) -> bool
     ensures answer { result ≡ mentions_def (map rule_of mappings.now.items)
         (Violation number) relation }

@@ -18,7 +18,7 @@ pub enum Reply {
 }
 
 impl Reply {
-    /// Whether the two answers mean the same. It takes no memory.
+    /// Whether the two answers mean the same.
     pub fn is_same(&self, other: &Reply) -> bool
         ensures same { IsTrue result ↔ (reply_of self.now ≡ reply_of other.now) }
     {

@@ -10,8 +10,8 @@ use crate::outer_forms::is_outer_form;
 use base_types::{List, Memory, TryCopy, Tuple, TupleList};
 use std::alloc::Global;
 
-/// The candidate that an answer `Unify` names: the first one with the outer form, and None exactly where no candidate
-/// has it, which is where the answer does not fit. It takes no memory.
+/// The candidate that an answer `Unify` names: the first one with the outer form, and None exactly where no candidate has it,
+/// which is where the answer does not fit.
 pub fn candidate<'a>(candidates: &'a TupleList, form: &Tuple) -> Option<&'a Tuple>
     ensures found { option_map fact_of (option_copied result) ≡
         find (λ s. same_fact (outer s) (fact_of form.now)) (map fact_of candidates.now.items) }
@@ -26,7 +26,7 @@ pub fn candidate<'a>(candidates: &'a TupleList, form: &Tuple) -> Option<&'a Tupl
         .find(|candidate| is_outer_form(candidate, form))
 }
 
-/// Whether the tuple's outer form is among the forms. It takes no memory.
+/// Whether the tuple's outer form is among the forms.
 pub fn is_named(tuple: &Tuple, forms: &TupleList) -> bool
     ensures answer { result ≡ list_any (same_fact (outer (fact_of tuple.now)))
         (map fact_of forms.now.items) }
@@ -37,8 +37,7 @@ pub fn is_named(tuple: &Tuple, forms: &TupleList) -> bool
         .any(|form| is_outer_form(tuple, form))
 }
 
-/// Copies of those of the tuples whose outer forms are among the forms, in the order of the tuples. It is refused
-/// only for want of memory.
+/// Copies of those of the tuples whose outer forms are among the forms, in the order of the tuples.
 pub fn named_tuples(
     alloc: Global,
     tuples: &TupleList,

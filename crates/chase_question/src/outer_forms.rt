@@ -6,8 +6,8 @@ ghost use Rattle.def_steps.specs.Questions.{is_outer_of};
 
 use base_types::{Tuple, TupleList, Value};
 
-/// Whether the form is the tuple's outer form, which is the tuple with attempt 0 in each null. A form with another
-/// attempt is the outer form of no tuple. It takes no memory.
+/// Whether the form is the tuple's outer form, which is the tuple with attempt 0 in each null. A form with another attempt is the
+/// outer form of no tuple.
 pub fn is_outer_form(tuple: &Tuple, form: &Tuple) -> bool
     ensures answer { result ≡ same_fact (outer (fact_of tuple.now)) (fact_of form.now) }
 {
@@ -17,7 +17,7 @@ pub fn is_outer_form(tuple: &Tuple, form: &Tuple) -> bool
     are_outer_forms(tuple.values.as_slice(), form.values.as_slice())
 }
 
-/// Whether the form is the outer form of one of the tuples. It takes no memory.
+/// Whether the form is the outer form of one of the tuples.
 pub fn has_outer_form(tuples: &TupleList, form: &Tuple) -> bool
     ensures answer { result ≡ is_outer_of (map fact_of tuples.now.items) (fact_of form.now) }
 {

@@ -52,9 +52,8 @@ impl TryCopy for Question {
     }
 }
 
-/// Whether the answer fits the question. A positive question is fitted by `Expand`, and by `Unify` with the outer
-/// form of a candidate; a negative one by `Delete` of at least one of its tuples, each by its outer form, a repeated
-/// one counting once. It takes no memory.
+/// Whether the answer fits the question. A positive question is fitted by `Expand`, and by `Unify` with the outer form of a
+/// candidate; a negative one by `Delete` of at least one of its tuples, each by its outer form, a repeated one counting once.
 pub fn fits(question: &Question, choice: &Choice) -> bool
     ensures answer { result ≡ fits_inquiry (inquiry_of question.now) (choice_of choice.now) }
     ensures asked { (q : Asked) → inquiry_in q ≡ inquiry_of question.now →

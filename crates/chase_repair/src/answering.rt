@@ -16,8 +16,8 @@ use base_types::{Memory, WriteList};
 use chase_query::{Query, Reply};
 use std::alloc::Global;
 
-/// Goes on by the answer to the query of this stage. A step that ends puts its writes behind the own ones. It is refused
-/// only for want of memory; the repair then stands where it stood, and the own writes are unchanged.
+/// Goes on by the answer to the query of this stage. A step that ends puts its writes behind the own ones. If it is refused, the
+/// repair stands where it stood, and the own writes are unchanged.
 pub(crate) fn answered(
     alloc: Global,
     generation: &mut Generation,

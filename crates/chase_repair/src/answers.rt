@@ -28,7 +28,7 @@ pub(crate) fn tuples_of(answer: &Reply) -> &[Tuple]
     }
 }
 
-/// Copies of the tuples. It is refused only for want of memory.
+/// Copies of the tuples.
 pub(crate) fn copies(alloc: Global, tuples: &[Tuple]) -> Result<TupleList, Memory>
     ensures same { IfOk result (λ copies. map fact_of copies.items ≡ map fact_of tuples.now) }
 {

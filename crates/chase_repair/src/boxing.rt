@@ -4,7 +4,7 @@ ghost use Rattle.std.specs.Prelude.{◌≡◌, IfOk};
 use base_types::Memory;
 use std::alloc::Global;
 
-/// The value behind a pointer, so that what holds it is small where it moves. It is refused only for want of memory.
+/// The value behind a pointer, so that what holds it is small where it moves.
 pub fn boxed<T: Drop>(alloc: Global, value: T) -> Result<Box<T>, Memory>
     ensures same { IfOk result (λ held. held.value ≡ value) }
 {

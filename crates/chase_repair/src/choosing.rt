@@ -25,9 +25,8 @@ use chase_question::{Question, named_tuples};
 use std::alloc::Global;
 use std::mem;
 
-/// Makes the step of the answer, which fits the question of this stage, up to its first query or its end. A step that ends
-/// puts its writes behind the own ones. It is refused only for want of memory; the repair then stands where it stood, and
-/// the own writes are unchanged.
+/// Makes the step of the answer, which fits the question of this stage, up to its first query or its end. A step that ends puts
+/// its writes behind the own ones. If it is refused, the repair stands where it stood, and the own writes are unchanged.
 pub(crate) fn chosen(
     alloc: Global,
     generation: &mut Generation,
@@ -110,8 +109,8 @@ fn unifying(stage: Stage, gathering: Box<Gathering>) -> Stage
     }
 }
 
-// Deletes those of the tuples whose outer forms are given, by writes behind the own ones. It is refused only for want of
-// memory; the own writes are then unchanged.
+// Deletes those of the tuples whose outer forms are given, by writes behind the own ones. If it is refused, the own writes are
+// unchanged.
 fn delete(
     alloc: Global,
     own: &mut WriteList,

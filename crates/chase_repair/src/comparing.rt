@@ -16,9 +16,8 @@ use chase_question::Question;
 use std::alloc::Global;
 use std::mem;
 
-/// The stage at the end of the step, by the tuples that are more specific than the generated one: with none of them the
-/// generated tuple is taken out of where it is and inserted, else a person is asked. It is refused only for want of memory;
-/// everything is then unchanged.
+/// The stage at the end of the step, by the tuples that are more specific than the generated one: with none of them the generated
+/// tuple is taken out of where it is and inserted, else a person is asked. If it is refused, everything is unchanged.
 pub(crate) fn compared(
     alloc: Global,
     generation: &mut Generation,
@@ -53,7 +52,7 @@ pub(crate) fn compared(
     }
 }
 
-/// The tuple, taken out of a place that is then written anew. It takes no memory.
+/// The tuple, taken out of a place that is then written anew.
 pub(crate) fn taken(tuple: &mut Tuple) -> Tuple
     ensures tuple { result ≡ tuple.old }
 {

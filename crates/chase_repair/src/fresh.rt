@@ -21,7 +21,7 @@ pub struct Fresh {
     pub drawn: u32,
 }
 
-/// How many existential variables the mapping has: one for each null that its repair draws. It takes no memory.
+/// How many existential variables the mapping has: one for each null that its repair draws.
 pub fn existential(mapping: &Mapping) -> usize
     ensures count { result ≡ (rule_of mapping.now).existential }
 {
@@ -31,7 +31,7 @@ pub fn existential(mapping: &Mapping) -> usize
         .saturating_sub(mapping.universal as usize)
 }
 
-/// The values of all variables of the mapping at the image. It is refused only for want of memory.
+/// The values of all variables of the mapping at the image.
 pub(crate) fn values_at(
     alloc: Global,
     mapping: &Mapping,

@@ -12,7 +12,7 @@ use base_limits::Mappings;
 use base_types::{Atom, List, Memory, Term, TermRow, TryCopy, Tuple, Value, ValueList};
 use std::alloc::Global;
 
-/// The tuple that the repair generates next. It is refused only for want of memory.
+/// The tuple that the repair generates next.
 pub(crate) fn generated(
     alloc: Global,
     generation: &Generation,
@@ -27,7 +27,7 @@ pub(crate) fn generated(
     }
 }
 
-/// The stage after a right atom: the next one is to be generated, or the repair is at its end. It takes no memory.
+/// The stage after a right atom: the next one is to be generated, or the repair is at its end.
 pub(crate) fn go_on(generation: &mut Generation, mappings: &Mappings<'_>) -> Stage
     ensures phase { phase_of (repairing_of generation.new result) ≡
         next_atom mappings.now (repair_of generation.old) }
@@ -53,7 +53,7 @@ fn right_atoms<'a>(mappings: &Mappings<'a>, number: u16) -> &'a [Atom]
     }
 }
 
-/// The tuple that the atom is under the values. It is refused only for want of memory.
+/// The tuple that the atom is under the values.
 pub(crate) fn tuple_under(alloc: Global, binding: &ValueList, atom: &Atom) -> Result<Tuple, Memory>
     ensures value { IfOk result (λ tuple.
         fact_of tuple ≡ fact_under (listed_def (data_of binding.now)) (pattern_of atom.now)) }

@@ -28,7 +28,7 @@ pub struct Bound<'a> {
 }
 
 impl Repair {
-    /// The mapping and the values of its variables; None exactly where no forward repair is in hand. It takes no memory.
+    /// The mapping and the values of its variables; None exactly where no forward repair is in hand.
     pub fn bound(&self) -> Option<Bound<'_>>
         ensures bound { option_map bound_of result ≡ bound_in (phase_of self.now) }
     {
@@ -44,8 +44,7 @@ impl Repair {
         }
     }
 
-    /// The unifier of the generated tuple in question and the candidate of this form, which fits the question. It is
-    /// refused only for want of memory.
+    /// The unifier of the generated tuple in question and the candidate of this form, which fits the question.
     pub fn unifier_with(&self, alloc: Global, form: &Tuple) -> Result<Sub, Memory>
         requires { TakesChoice (wanted self.now) (Unify (fact_of form.now)) }
         ensures unifier { IfOk result
@@ -100,7 +99,7 @@ fn bound_by(generation: &Generation) -> Bound<'_>
     }
 }
 
-/// The image of the atoms under the values of the variables. It is refused only for want of memory.
+/// The image of the atoms under the values of the variables.
 pub fn image(alloc: Global, values: &ValueList, atoms: &AtomList) -> Result<TupleList, Memory>
     ensures image { IfOk result
         (λ tuples. map fact_of tuples.items ≡

@@ -13,8 +13,7 @@ use base_types::{List, Memory, TupleList, WriteList};
 use chase_question::Question;
 use std::alloc::Global;
 
-/// A single tuple is deleted; of several a person is asked which, in a question that names the mapping's number. It is
-/// refused only for want of memory.
+/// A single tuple is deleted; of several a person is asked which, in a question that names the mapping's number.
 pub(crate) fn look_back(
     alloc: Global,
     number: u16,

@@ -11,7 +11,7 @@ use base_types::{List, Memory, Null, Sub, Tuple, Value};
 use std::alloc::Global;
 use std::collections::BTreeSet;
 
-/// The distinct nulls among the values, in order of first position. It is refused only for want of memory.
+/// The distinct nulls among the values, in order of first position.
 pub fn nulls_in(alloc: Global, values: &[Value]) -> Result<List<Null>, Memory>
     ensures value { IfOk result (λ nulls. map null_of nulls.items ≡
         nulls_in_def (map datum_of values.now)) }
@@ -23,7 +23,7 @@ pub fn nulls_in(alloc: Global, values: &[Value]) -> Result<List<Null>, Memory>
     Ok(nulls)
 }
 
-/// The nulls of the tuple that the substitution moves, in their order. It is refused only for want of memory.
+/// The nulls of the tuple that the substitution moves, in their order.
 pub(crate) fn moved_nulls(alloc: Global, sub: &Sub, tuple: &Tuple) -> Result<List<Null>, Memory>
     ensures value { IfOk result (λ nulls.
         map null_of nulls.items ≡ moved_among_def sub.now

@@ -8,7 +8,7 @@ use base_types::{List, Memory, TryCopy, Tuple, TupleList};
 use std::alloc::Global;
 use std::collections::BTreeSet;
 
-/// The tuples in order, each once. It is refused only for want of memory.
+/// The tuples in order, each once.
 pub fn in_order(alloc: Global, tuples: &TupleList) -> Result<TupleList, Memory>
     ensures value { IfOk result (λ list. map fact_of list.items ≡
         in_order_def (map fact_of tuples.now.items)) }
@@ -18,7 +18,7 @@ pub fn in_order(alloc: Global, tuples: &TupleList) -> Result<TupleList, Memory>
     listed(alloc, set)
 }
 
-/// Puts a tuple into the set. It is refused only for want of memory.
+/// Puts a tuple into the set.
 pub(crate) fn put(set: &mut BTreeSet<Tuple>, tuple: Tuple) -> Result<(), Memory>
     ensures ok { OnOk result (map fact_of set.new.keys ≡
         apply (map fact_of set.old.keys) (Insert (fact_of tuple) ∷ [])) }
@@ -29,7 +29,7 @@ pub(crate) fn put(set: &mut BTreeSet<Tuple>, tuple: Tuple) -> Result<(), Memory>
     }
 }
 
-/// Puts copies of the tuples into the set. It is refused only for want of memory.
+/// Puts copies of the tuples into the set.
 pub(crate) fn put_copies(
     alloc: Global,
     set: &mut BTreeSet<Tuple>,
@@ -44,7 +44,7 @@ pub(crate) fn put_copies(
     Ok(())
 }
 
-/// The items of the set in order. It is refused only for want of memory.
+/// The items of the set in order.
 pub(crate) fn listed<T: Ord + Drop>(alloc: Global, set: BTreeSet<T>) -> Result<List<T>, Memory>
     ensures items { IfOk result (λ list. list.items ≡ set.keys) }
 {

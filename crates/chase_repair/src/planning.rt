@@ -14,8 +14,7 @@ use chase_question::candidate;
 use chase_unifier::unifier;
 use std::alloc::Global;
 
-/// The unifier of the tuple and the candidate of this form, and the nulls that it moves, in order. It is refused only for
-/// want of memory.
+/// The unifier of the tuple and the candidate of this form, and the nulls that it moves, in order.
 pub(crate) fn plan(
     alloc: Global,
     tuple: &Tuple,

@@ -45,10 +45,9 @@ impl Model for Repair {
 }
 
 impl Repair {
-    /// The repair of a violation by insertions: the variables on the left have their values at the image, each
-    /// existential one a fresh null, and the right atoms are to be generated in turn. `number` is the mapping's. A look
-    /// of such an attempt makes this, and draws as many nulls as the mapping has existential variables. It is refused
-    /// only for want of memory.
+    /// The repair of a violation by insertions: the variables on the left have their values at the image, each existential one a
+    /// fresh null, and the right atoms are to be generated in turn. `number` is the mapping's. A look of such an attempt makes
+    /// this, and draws as many nulls as the mapping has existential variables.
     pub fn forward(
         alloc: Global,
         number: u16,
@@ -71,9 +70,8 @@ impl Repair {
         })
     }
 
-    /// The repair of a violation by deletions, and the writes of the look that makes it: a single tuple of the image is
-    /// deleted at once, of several a person is asked, whose question names the mapping's number. It is refused only for
-    /// want of memory.
+    /// The repair of a violation by deletions, and the writes of the look that makes it: a single tuple of the image is deleted
+    /// at once, of several a person is asked, whose question names the mapping's number.
     pub fn backward(
         alloc: Global,
         number: u16,
@@ -91,7 +89,7 @@ impl Repair {
         Ok((Repair { generation, stage }, writes))
     }
 
-    /// Begins the step that is next. It then asks. It is refused only for want of memory; the repair is then unchanged.
+    /// Begins the step that is next. It then asks. If it is refused, the repair is unchanged.
     pub fn begin(&mut self, alloc: Global, mappings: &Mappings<'_>) -> Result<(), Memory>
         requires { wanted self.old ≡ WantsStep }
         ensures step { OnOk result (HasBegun mappings.now self.old self.new) }
@@ -104,8 +102,8 @@ impl Repair {
         Ok(())
     }
 
-    /// Takes the answer to the query that is asked, and goes on by it. A step that ends puts its writes behind the own
-    /// ones. It is refused only for want of memory; the repair and the own writes are then unchanged.
+    /// Takes the answer to the query that is asked, and goes on by it. A step that ends puts its writes behind the own ones. If
+    /// it is refused, the repair and the own writes are unchanged.
     pub fn answer(
         &mut self,
         alloc: Global,
@@ -130,9 +128,8 @@ impl Repair {
         )
     }
 
-    /// Takes the answer to the question, which fits it, and makes the step of it up to its first query or its end. A step
-    /// that ends puts its writes behind the own ones. It is refused only for want of memory; the repair and the own writes
-    /// are then unchanged.
+    /// Takes the answer to the question, which fits it, and makes the step of it up to its first query or its end. A step that
+    /// ends puts its writes behind the own ones. If it is refused, the repair and the own writes are unchanged.
     pub fn choose(
         &mut self,
         alloc: Global,
@@ -157,7 +154,7 @@ impl Repair {
         )
     }
 
-    /// What is wanted next. A query is what the step under way asks first. It takes no memory.
+    /// What is wanted next. A query is what the step under way asks first.
     pub fn wants(&self) -> RepairWant<'_>
         ensures want { want_of result ≡ wanted self.now }
         ensures query { (ms : List Rule) →

@@ -13,8 +13,8 @@ use chase_unifier::apply;
 use std::alloc::Global;
 use std::collections::BTreeSet;
 
-/// The writes that rewrite the tuples by a substitution: a deletion of each, then an insertion of each distinct
-/// substituted tuple, in order. It is refused only for want of memory.
+/// The writes that rewrite the tuples by a substitution: a deletion of each, then an insertion of each distinct substituted
+/// tuple, in order.
 pub fn rewrite(alloc: Global, sub: &Sub, tuples: &TupleList) -> Result<WriteList, Memory>
     ensures value { IfOk result (λ writes.
         changes_of writes ≡ rewrite_def (moved_by (images_of sub.now)) (facts_of tuples.now)) }
@@ -25,7 +25,7 @@ pub fn rewrite(alloc: Global, sub: &Sub, tuples: &TupleList) -> Result<WriteList
     Ok(writes)
 }
 
-/// The deletions of the tuples, in turn. It is refused only for want of memory.
+/// The deletions of the tuples, in turn.
 pub(crate) fn deletions(alloc: Global, tuples: TupleList) -> Result<WriteList, Memory>
     ensures value { IfOk result (λ writes. changes_of writes ≡ map Delete (facts_of tuples)) }
 {

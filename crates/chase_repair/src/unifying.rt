@@ -20,8 +20,7 @@ use chase_unifier::apply_row;
 use std::alloc::Global;
 use std::collections::BTreeSet;
 
-/// Keeps the tuples that were found, and asks for the next null. It is refused only for want of memory; the step is then
-/// where it was.
+/// Keeps the tuples that were found, and asks for the next null. If it is refused, the step is where it was.
 pub(crate) fn ask_next(
     alloc: Global,
     gathering: &mut Gathering,
@@ -37,7 +36,7 @@ pub(crate) fn ask_next(
     Ok(())
 }
 
-/// The tuples found in the step, with the last ones, in order. It is refused only for want of memory.
+/// The tuples found in the step, with the last ones, in order.
 pub(crate) fn all_found(
     alloc: Global,
     gathering: &Gathering,
@@ -54,8 +53,8 @@ pub(crate) fn all_found(
     listed(alloc, set)
 }
 
-/// The end of the step: the unifier goes through the tuples, by writes behind the own ones, and through the values of the
-/// repair in hand. It is refused only for want of memory; the repair in hand and the own writes are then unchanged.
+/// The end of the step: the unifier goes through the tuples, by writes behind the own ones, and through the values of the repair
+/// in hand. If it is refused, the repair in hand and the own writes are unchanged.
 pub(crate) fn unify(
     alloc: Global,
     generation: &mut Generation,

@@ -7,8 +7,7 @@ use base_types::{List, Memory, TryCopy, Tuple, Write, WriteList};
 use std::alloc::Global;
 use std::mem;
 
-/// Puts the writes at the end of the own ones. It is refused only for want of memory; the own writes are then
-/// unchanged.
+/// Puts the writes at the end of the own ones. If it is refused, the own writes are unchanged.
 pub fn append(alloc: Global, own: &mut WriteList, writes: WriteList) -> Result<(), Memory>
     ensures ok { OnOk result (own.new.items ≡ own.old.items ++ writes.items) }
     ensures err { OnErr result (own.new.items ≡ own.old.items) }
@@ -29,8 +28,7 @@ pub fn append(alloc: Global, own: &mut WriteList, writes: WriteList) -> Result<(
     }
 }
 
-/// Puts the insertion of a copy of the tuple at the end of the own writes. It is refused only for want of memory; they
-/// are then unchanged.
+/// Puts the insertion of a copy of the tuple at the end of the own writes. If it is refused, they are unchanged.
 pub(crate) fn insert(alloc: Global, own: &mut WriteList, tuple: &Tuple) -> Result<(), Memory>
     ensures ok { OnOk result (map change_of own.new.items ≡
         map change_of own.old.items ++ Insert (fact_of tuple.now) ∷ []) }

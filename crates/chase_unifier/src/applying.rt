@@ -7,7 +7,7 @@ ghost use Rattle.base_types.specs.Maps.{images_of, moved_by};
 use base_types::{List, Memory, Sub, TryCopy, Tuple, Value, ValueList};
 use std::alloc::Global;
 
-/// The tuple with each null that has an image replaced by it. It is refused only for want of memory.
+/// The tuple with each null that has an image replaced by it.
 pub fn apply(alloc: Global, sub: &Sub, tuple: &Tuple) -> Result<Tuple, Memory>
     ensures value { IfOk result (λ moved. fact_of moved ≡
         under (moved_by (images_of sub.now)) (fact_of tuple.now)) }
@@ -16,7 +16,7 @@ pub fn apply(alloc: Global, sub: &Sub, tuple: &Tuple) -> Result<Tuple, Memory>
     Tuple::new(alloc, tuple.relation, values)
 }
 
-/// The values with each null that has an image replaced by it. It is refused only for want of memory.
+/// The values with each null that has an image replaced by it.
 pub fn apply_row(alloc: Global, sub: &Sub, row: &[Value]) -> Result<ValueList, Memory>
     ensures value { IfOk result (λ moved. map datum_of moved.items ≡
         map (moved_by (images_of sub.now)) (map datum_of row.now)) }

@@ -7,8 +7,7 @@ ghost use Rattle.chase_unifier.specs.Moves.{give as give_def};
 use base_types::{Memory, Sub, TryCopy, Value};
 use std::alloc::Global;
 
-/// Gives the value this image if it is a null. It is refused only for want of memory; the function is then one to
-/// be let go.
+/// Gives the value this image if it is a null. If it is refused, the function is one to be dropped.
 pub(crate) fn give(alloc: Global, sub: &mut Sub, value: &Value, image: &Value) -> Result<(), Memory>
     ensures ok { OnOk result (images_of sub.new ≡
         give_def (images_of sub.old) (datum_of value.now) (datum_of image.now)) }

@@ -12,8 +12,8 @@ use crate::nulls::give;
 use base_types::{Memory, Sub, Tuple, Value};
 use std::alloc::Global;
 
-/// Whether the second tuple is more specific than the first: it is the first with each null replaced by one value
-/// wherever it stands. It takes no memory; its time grows with the square of the number of columns.
+/// Whether the second tuple is more specific than the first: it is the first with each null replaced by one value wherever it
+/// stands. Its time grows with the square of the number of columns.
 pub fn is_more_specific(tuple: &Tuple, specific: &Tuple) -> bool
     ensures answer { result ≡ more_specific (fact_of specific.now) (fact_of tuple.now) }
 {
@@ -23,8 +23,8 @@ pub fn is_more_specific(tuple: &Tuple, specific: &Tuple) -> bool
     is_function(tuple.values.as_slice(), specific.values.as_slice())
 }
 
-/// The function that takes the first tuple to the second; None exactly where the second is not more specific.
-/// Each null of the first is moved to what stands in its place. It is refused only for want of memory.
+/// The function that takes the first tuple to the second; None exactly where the second is not more specific. Each null of the
+/// first is moved to what stands in its place.
 pub fn specific_by(alloc: Global, tuple: &Tuple, specific: &Tuple) -> Result<Option<Sub>, Memory>
     ensures value { IfOk result (λ found. option_map (λ sub. moved_by (images_of sub)) found ≡
         taking (fact_of tuple.now) (fact_of specific.now)) }

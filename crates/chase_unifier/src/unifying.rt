@@ -11,9 +11,9 @@ use crate::specific::image_of;
 use base_types::{Memory, Sub, Tuple, Value};
 use std::alloc::Global;
 
-/// The unifier of a tuple and a more specific one: each null of the first is followed from image to image, to
-/// where the walk stands still, or to the least value of the cycle that it comes into. It makes the two one tuple.
-/// It is refused only for want of memory. Its time grows with the cube of the number of columns.
+/// The unifier of a tuple and a more specific one: each null of the first is followed from image to image, to where the walk
+/// stands still, or to the least value of the cycle that it comes into. It makes the two one tuple. Its time grows with the cube
+/// of the number of columns.
 pub fn unifier(alloc: Global, tuple: &Tuple, specific: &Tuple) -> Result<Sub, Memory>
     requires { more_specific (fact_of specific.now) (fact_of tuple.now) ≡ true }
     ensures value { IfOk result (λ sub. moved_by (images_of sub) ≡

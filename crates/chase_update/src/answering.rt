@@ -19,8 +19,8 @@ use chase_query::Reply;
 use chase_repair::Fresh;
 use std::alloc::Global;
 
-/// Goes on by the answer to the query that is asked. It gives None where that is whether the operation's tuple is there,
-/// which is then to be written where it stands. It is refused only for want of memory.
+/// Goes on by the answer to the query that is asked. It gives None where that is whether the operation's tuple is there, which is
+/// then to be written where it stands.
 pub(crate) fn answered(
     alloc: Global,
     operation: &Operation,

@@ -71,8 +71,7 @@ impl Model for Attempt {
 }
 
 impl Attempt {
-    /// The attempt of that number at an update, at its start. `number` is the update's. It is refused only for want of
-    /// memory.
+    /// The attempt of that number at an update, at its start. `number` is the update's.
     pub fn start(
         alloc: Global,
         update: &Update,
@@ -85,8 +84,7 @@ impl Attempt {
         Attempt::at_start(alloc, number, attempt, operation)
     }
 
-    /// The attempt of that number at the operation, at its start. `number` is the update's. It is refused only for want of
-    /// memory.
+    /// The attempt of that number at the operation, at its start. `number` is the update's.
     pub(crate) fn at_start(
         alloc: Global,
         number: u32,
@@ -114,8 +112,8 @@ impl Attempt {
         })
     }
 
-    /// What is wanted next: the answer to a query exactly where the step in hand asks that query first, and else what
-    /// the attempt between two steps wants. It takes no memory.
+    /// What is wanted next: the answer to a query exactly where the step in hand asks that query first, and else what the attempt
+    /// between two steps wants.
     #[inline]
     pub fn wants(&self) -> Want<'_>
         ensures want { want_of result ≡ wish self.now }

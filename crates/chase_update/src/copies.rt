@@ -22,7 +22,7 @@ impl Attempt {
         self.parts.own.list()
     }
 
-    /// The writes that the attempt has made, in order, for which it is given up. It is refused only for want of memory.
+    /// The writes that the attempt has made, in order, for which it is given up.
     pub fn into_own(self, alloc: Global) -> Result<WriteList, Memory>
         ensures own { IfOk result (λ own. map change_of own.items ≡ self.attempt.own) }
     {
@@ -30,8 +30,7 @@ impl Attempt {
         parts.own.into_list(alloc)
     }
 
-    /// A copy to make the next step on, which takes along what the attempt keeps to make more writes. It is refused only for
-    /// want of memory. The attempt stays as it is.
+    /// A copy to make the next step on, which takes along what the attempt keeps to make more writes. The attempt stays as it is.
     pub fn branch(&mut self, alloc: Global) -> Result<Attempt, Memory>
         ensures same { IfOk result (λ branch. branch ≡ self.old) }
         ensures stays { self.new ≡ self.old }
@@ -40,7 +39,7 @@ impl Attempt {
         self.with(alloc, own)
     }
 
-    // A copy with these writes, which are the attempt's. It is refused only for want of memory.
+    // A copy with these writes, which are the attempt's.
     fn with(&self, alloc: Global, own: Own) -> Result<Attempt, Memory>
         requires own { changes_of own ≡ self.now.attempt.own }
         ensures same { IfOk result (λ copy. copy ≡ self.now) }
@@ -58,8 +57,7 @@ impl Attempt {
         Ok(copy)
     }
 
-    /// Lets copies of it share its writes from now on. It keeps those that it had before, to make more. It is refused only for
-    /// want of memory. It stays as it is.
+    /// Lets copies of it share its writes from now on. It keeps those that it had before, to make more. It stays as it is.
     pub fn share(&mut self, alloc: Global, before: &Attempt) -> Result<(), Memory>
         requires first { IsPrefix before.now.attempt.own self.old.attempt.own }
         ensures same { self.new ≡ self.old }

@@ -66,8 +66,8 @@ fn some_of(tuples: &TupleList) -> Option<&TupleList>
     }
 }
 
-/// What the named null stands for: the value of that outer name which stands first in the first of the tuples. It is
-/// the number 0 where none does. It is refused only for want of memory.
+/// What the named null stands for: the value of that outer name which stands first in the first of the tuples. It is the number 0
+/// where none does.
 pub fn standing_for(alloc: Global, name: Null, tuples: &TupleList) -> Result<Value, Memory>
     ensures value { IfOk result (λ value. datum_of value ≡
         standing_for_def (null_of name) (facts_of tuples.now)) }
@@ -108,8 +108,7 @@ fn is_named(value: &Value, name: Null) -> bool
     }
 }
 
-/// The tuple with each null replaced by what it stands for, and by the number 0 where it was not found. It is refused
-/// only for want of memory.
+/// The tuple with each null replaced by what it stands for, and by the number 0 where it was not found.
 pub(crate) fn resolved(
     alloc: Global,
     found: &[ResolvedNull],

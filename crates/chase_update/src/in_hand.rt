@@ -16,21 +16,21 @@ use chase_repair::Bound;
 use std::alloc::Global;
 
 impl Attempt {
-    /// The number of its update. It takes no memory.
+    /// The number of its update.
     pub fn number(&self) -> u32
         ensures number { result ≡ self.now.attempt.number }
     {
         self.parts.number
     }
 
-    /// What its update is to do. It takes no memory.
+    /// What its update is to do.
     pub fn operation(&self) -> &Operation
         ensures operation { operation_of result.now ≡ self.now.attempt.operation }
     {
         &self.parts.operation
     }
 
-    /// Whether its next step is the first, that of the operation. It takes no memory.
+    /// Whether its next step is the first, that of the operation.
     pub fn is_at_start(&self) -> bool
         requires between { self.now.reading ≡ None }
         ensures start { result ≡ is_start self.now.attempt.phase }
@@ -39,7 +39,6 @@ impl Attempt {
     }
 
     /// The mapping of the forward repair in hand, and the values of its variables; None exactly where none is in hand.
-    /// It takes no memory.
     pub fn bound(&self) -> Option<Bound<'_>>
         ensures bound { option_map bound_of result ≡ bound_in self.now.attempt.phase }
     {
@@ -52,8 +51,7 @@ impl Attempt {
         }
     }
 
-    /// The unifier of the generated tuple in question and the candidate of this form, which fits the question. It is
-    /// refused only for want of memory.
+    /// The unifier of the generated tuple in question and the candidate of this form, which fits the question.
     pub fn unifier_with(&self, alloc: Global, form: &Tuple) -> Result<Sub, Memory>
         requires { Fits (wish self.now) (Unify (fact_of form.now)) }
         ensures unifier { IfOk result

@@ -20,8 +20,7 @@ use chase_query::{Query, Reply};
 use chase_repair::{Fresh, Repair, existential};
 use std::alloc::Global;
 
-/// Looks at the mappings from place `from` on, up to the next one that may be in force for an update of this number. It
-/// is refused only for want of memory.
+/// Looks at the mappings from place `from` on, up to the next one that may be in force for an update of this number.
 pub(crate) fn look(
     alloc: Global,
     number: u32,
@@ -69,7 +68,7 @@ fn asks_force(alloc: Global, place: u16) -> Result<Turn, Memory>
     }))
 }
 
-/// Goes on by whether the mapping has been put in force. It is refused only for want of memory.
+/// Goes on by whether the mapping has been put in force.
 pub(crate) fn found_force(
     alloc: Global,
     number: u32,
@@ -88,8 +87,7 @@ pub(crate) fn found_force(
     }
 }
 
-/// Goes on by the first violation of the mapping: begins its repair, or looks on. It is refused only for want of
-/// memory.
+/// Goes on by the first violation of the mapping: begins its repair, or looks on.
 pub(crate) fn found_violation(
     alloc: Global,
     operation: &Operation,

@@ -44,7 +44,7 @@ impl Model for Own {
 }
 
 impl Own {
-    /// No writes. It takes no memory.
+    /// No writes.
     pub(crate) fn none(alloc: Global) -> Own
         ensures none { result.items ≡ [] }
     {
@@ -53,7 +53,7 @@ impl Own {
         }
     }
 
-    /// The writes as a list. It takes no memory.
+    /// The writes as a list.
     pub(crate) fn list(&self) -> &WriteList
         ensures same { result.now ≡ self.now }
     {
@@ -63,7 +63,7 @@ impl Own {
         }
     }
 
-    /// The writes as a list, for which they are given up. It is refused only for want of memory.
+    /// The writes as a list, for which they are given up.
     pub(crate) fn into_list(self, alloc: Global) -> Result<WriteList, Memory>
         ensures same { IfOk result (λ writes. changes_of writes ≡ changes_of self) }
     {
@@ -73,7 +73,7 @@ impl Own {
         }
     }
 
-    /// Another list of the same writes, which shares them where they are shared already. It is refused only for want of memory.
+    /// Another list of the same writes, which shares them where they are shared already.
     pub(crate) fn copy(&self, alloc: Global) -> Result<Own, Memory>
         ensures same { IfOk result (λ copy. changes_of copy ≡ changes_of self.now) }
     {
@@ -87,7 +87,7 @@ impl Own {
         }
     }
 
-    /// Another list of the same writes, which takes along what these keep to make more. It is refused only for want of memory.
+    /// Another list of the same writes, which takes along what these keep to make more.
     pub(crate) fn branch(&mut self, alloc: Global) -> Result<Own, Memory>
         ensures same { IfOk result (λ branch. changes_of branch ≡ changes_of self.old) }
         ensures stays { self.new ≡ self.old }
@@ -102,8 +102,8 @@ impl Own {
         }
     }
 
-    /// Lets copies share the writes from now on, of which the first may be kept where they are shared already. It is refused
-    /// only for want of memory. The writes stay as they are.
+    /// Lets copies share the writes from now on, of which the first may be kept where they are shared already. The writes stay as
+    /// they are.
     pub(crate) fn share(&mut self, alloc: Global, first: &Own) -> Result<(), Memory>
         requires first { IsPrefix (changes_of first.now) (changes_of self.old) }
         ensures same { self.new.items ≡ self.old.items }
@@ -157,7 +157,7 @@ impl Own {
         }
     }
 
-    /// Puts the writes at the end. It is refused only for want of memory; they then stay as they are.
+    /// Puts the writes at the end. If it is refused, they stay as they are.
     pub(crate) fn append(&mut self, alloc: Global, writes: WriteList) -> Result<(), Memory>
         ensures ok { OnOk result (changes_of self.new ≡ changes_of self.old ++ changes_of writes) }
         ensures err { OnErr result (changes_of self.new ≡ changes_of self.old) }
@@ -171,8 +171,8 @@ impl Own {
         made
     }
 
-    /// An insertion writes the tuple that is asked about where it is not there, a deletion where it is. A look comes next. It is
-    /// refused only for want of memory; everything is then unchanged.
+    /// An insertion writes the tuple that is asked about where it is not there, a deletion where it is. A look comes next. If it
+    /// is refused, everything is unchanged.
     pub(crate) fn write(
         &mut self,
         alloc: Global,

@@ -7,14 +7,14 @@ use base_types::{Memory, TryCopy};
 use std::alloc::Global;
 
 impl Attempt {
-    /// The attempt's number. It takes no memory.
+    /// The attempt's number.
     pub fn attempt(&self) -> u32
         ensures attempt { result ≡ self.now.attempt.attempt }
     {
         self.parts.attempt
     }
 
-    /// The next attempt at the same update, at its start. It is refused only for want of memory.
+    /// The next attempt at the same update, at its start.
     pub fn anew(&self, alloc: Global) -> Result<Attempt, Memory>
         requires more { self.now.attempt.attempt + 1 < 2 ^ 32 }
         ensures begun { IfOk result

@@ -21,7 +21,7 @@ use chase_query::{Query, Reply};
 use chase_repair::{boxed, rewrite};
 use std::alloc::Global;
 
-/// Goes on by the answer to the look-up of the null that is to be replaced. It is refused only for want of memory.
+/// Goes on by the answer to the look-up of the null that is to be replaced.
 pub(crate) fn found_replaced(
     alloc: Global,
     operation: &Operation,
@@ -77,8 +77,7 @@ fn replaced(
     }
 }
 
-/// Goes on by the answer to the look-up of the null that replaces the other one in these tuples. It is refused only for
-/// want of memory.
+/// Goes on by the answer to the look-up of the null that replaces the other one in these tuples.
 pub(crate) fn found_replacement(
     alloc: Global,
     renaming: &Renaming,

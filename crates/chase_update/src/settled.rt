@@ -17,10 +17,10 @@ use base_types::{Mapping, Memory};
 use chase_query::{Logged, Passage, ReadLog};
 
 impl Attempt {
-    /// Passes, in a look, over mappings that are settled: `settled[n]` says that the mapping of number n has no violation
-    /// that counts. The step then asks for the first violation of the next mapping that is not settled; but of the last
-    /// settled one where the look would end behind it, or where it has to be asked whether the next one is in force. What
-    /// the step comes to is the same, and it asks no more than before. It takes no memory.
+    /// Passes, in a look, over mappings that are settled: `settled[n]` says that the mapping of number n has no violation that
+    /// counts. The step then asks for the first violation of the next mapping that is not settled; but of the last settled one
+    /// where the look would end behind it, or where it has to be asked whether the next one is in force. What the step comes to
+    /// is the same, and it asks no more than before.
     pub fn pass(&mut self, settled: &[bool], mappings: &Mappings<'_>)
         ensures passed { HasPassed mappings.now settled.now self.old self.new }
         ensures attempt { self.new.attempt ≡ self.old.attempt }
@@ -32,8 +32,8 @@ impl Attempt {
     }
 
     /// Passes as `pass` does, and puts the passages of mappings that it passes at the end of the log: a read of each, that it has
-    /// no violation, by an attempt that had made so many writes. It is refused only for want of memory; the program then
-    /// stays as it is, and some of the reads may be in the log.
+    /// no violation, by an attempt that had made so many writes. If it is refused, the program stays as it is, and some of the
+    /// reads may be in the log.
     pub fn pass_logged(
         &mut self,
         settled: &[bool],

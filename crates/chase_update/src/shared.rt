@@ -33,21 +33,21 @@ impl Model for SharedWrites {
 }
 
 impl SharedWrites {
-    /// The writes of the list. It takes no memory.
+    /// The writes of the list.
     pub(crate) fn of(all: Arc<WriteList>) -> SharedWrites
         ensures same { result ≡ all.value }
     {
         SharedWrites { all, first: None }
     }
 
-    /// The writes as a list. It takes no memory.
+    /// The writes as a list.
     pub(crate) fn list(&self) -> &WriteList
         ensures same { result.now ≡ self.now }
     {
         &self.all
     }
 
-    /// The same writes. It is refused only for want of memory.
+    /// The same writes.
     pub(crate) fn copy(&self) -> Result<SharedWrites, Memory>
         ensures same { IfOk result (λ copy. copy ≡ self.now) }
     {
@@ -55,7 +55,7 @@ impl SharedWrites {
         Ok(SharedWrites { all, first: None })
     }
 
-    /// The same writes, with the list of the first of them where there is one. It is refused only for want of memory.
+    /// The same writes, with the list of the first of them where there is one.
     pub(crate) fn branch(&mut self) -> Result<SharedWrites, Memory>
         ensures same { IfOk result (λ branch. branch ≡ self.old) }
         ensures stays { self.new ≡ self.old }
@@ -65,8 +65,8 @@ impl SharedWrites {
         Ok(SharedWrites { all, first })
     }
 
-    /// The writes as a list of which nobody else has a part: that of the first of them, if nobody else has it, with copies of those
-    /// that it lacks. It is refused only for want of memory.
+    /// The writes as a list of which nobody else has a part: that of the first of them, if nobody else has it, with copies of
+    /// those that it lacks.
     pub(crate) fn alone(&mut self, alloc: Global) -> Result<WriteList, Memory>
         ensures same { IfOk result (λ writes. changes_of writes ≡ changes_of self.old) }
         ensures stays { self.new ≡ self.old }
@@ -76,7 +76,7 @@ impl SharedWrites {
         Ok(writes)
     }
 
-    /// Keeps the list of the other, which are the first of the writes, if they are fewer. It is refused only for want of memory.
+    /// Keeps the list of the other, which are the first of the writes, if they are fewer.
     pub(crate) fn keep(&mut self, first: &SharedWrites) -> Result<(), Memory>
         requires first { IsPrefix (changes_of first.now) (changes_of self.old) }
         ensures stays { self.new ≡ self.old }
@@ -88,7 +88,7 @@ impl SharedWrites {
     }
 }
 
-// The list, if nobody else has it, and else an empty one. It takes no memory.
+// The list, if nobody else has it, and else an empty one.
 fn unshared(alloc: Global, first: Option<Arc<WriteList>>) -> WriteList
     ensures first { (all : Listed WriteOfProgram) →
         HasFirst first all → IsPrefix (changes_of result) (changes_of all) }
@@ -102,7 +102,7 @@ fn unshared(alloc: Global, first: Option<Arc<WriteList>>) -> WriteList
     }
 }
 
-// Puts copies of the writes that the list lacks at its end, with room for one more. It is refused only for want of memory.
+// Puts copies of the writes that the list lacks at its end, with room for one more.
 fn catch_up(first: &mut WriteList, alloc: Global, all: &[Write]) -> Result<(), Memory>
     requires first { IsPrefix (changes_of first.old) (map change_of all.now) }
     ensures all { OnOk result (changes_of first.new ≡ map change_of all.now) }

@@ -22,7 +22,7 @@ use chase_query::{Query, Reply};
 use chase_repair::{boxed, nulls_in};
 use std::alloc::Global;
 
-/// Begins the step of the operation. It is refused only for want of memory.
+/// Begins the step of the operation.
 pub(crate) fn start(alloc: Global, operation: &Operation) -> Result<Turn, Memory>
     ensures value { IfOk result
         (ComesTo (operation_of operation.now) (start_def (operation_of operation.now))) }
@@ -52,7 +52,7 @@ fn look_up(alloc: Global, operation: &Operation, tuple: &Tuple) -> Result<Turn, 
     next_name(alloc, operation, ResolvedNullList::new(alloc), names, 0)
 }
 
-/// The tuple which says that the mapping has been put in force. It is refused only for want of memory.
+/// The tuple which says that the mapping has been put in force.
 pub(crate) fn force(alloc: Global, mapping: u16) -> Result<Tuple, Memory>
     ensures value { IfOk result (λ tuple. fact_of tuple ≡ force_def mapping) }
 {
@@ -118,7 +118,7 @@ fn asks_for(tuple: Tuple) -> Turn
     })
 }
 
-/// Goes on by the answer to the look-up of a named null. It is refused only for want of memory.
+/// Goes on by the answer to the look-up of a named null.
 pub(crate) fn found_name(
     alloc: Global,
     operation: &Operation,

@@ -10,8 +10,8 @@ use base_types::{Memory, Operation, Tuple, Write, WriteList};
 use chase_query::Query;
 use std::mem;
 
-/// An insertion writes the tuple that is asked about where it is not there, a deletion where it is, behind the own writes.
-/// A look comes next. It is refused only for want of memory; everything is then unchanged.
+/// An insertion writes the tuple that is asked about where it is not there, a deletion where it is, behind the own writes. A look
+/// comes next. If it is refused, everything is unchanged.
 pub(crate) fn write(
     operation: &Operation,
     point: &mut Point,

@@ -16,9 +16,9 @@ use base_types::{Direction, Facts, Mapping, Memory, TupleList};
 use chase_match::{Matched, PartialMatch};
 use std::alloc::Global;
 
-/// The violation of the mapping in the facts, among those that count, whose image is least, compared tuple by
-/// tuple; None exactly where none counts. A violation is a match of the left side that no match of the right side
-/// extends; its binding has the variables of the left side. It is refused only for want of memory.
+/// The violation of the mapping in the facts, among those that count, whose image is least, compared tuple by tuple; None exactly
+/// where none counts. A violation is a match of the left side that no match of the right side extends; its binding has the
+/// variables of the left side.
 pub fn first_violation<F: Facts>(
     alloc: Global,
     mapping: &Mapping,
@@ -35,7 +35,7 @@ pub fn first_violation<F: Facts>(
     }
 }
 
-/// The image of that violation alone. It is refused only for want of memory.
+/// The image of that violation alone.
 pub fn first_image<F: Facts>(
     alloc: Global,
     mapping: &Mapping,
@@ -70,7 +70,7 @@ fn first_in_scope<'a, F: Facts>(
     }
 }
 
-/// Whether the mapping holds in the facts: it has no violation there. It is refused only for want of memory.
+/// Whether the mapping holds in the facts: it has no violation there.
 pub fn holds<F: Facts>(alloc: Global, mapping: &Mapping, facts: &F) -> Result<bool, Memory>
     ensures decides { IfOk result (λ answer.
         Decides answer (Holds (rule_of mapping.now) (F.tuples facts.now))) }

@@ -68,7 +68,7 @@ fn first_violated<'a, F: Facts>(
 }
 
 /// The first violation of the session's base, which is given as a set of tuples: that of the first mapping in force from the
-/// start that has one. It is refused only for want of memory.
+/// start that has one.
 pub fn base_violation<'a>(
     alloc: Global,
     session: &'a Session,
@@ -131,7 +131,7 @@ fn base_line(alloc: Global, schema: &Schema, violated: &Violated<'_>) -> Result<
     Ok(line)
 }
 
-/// The refusal that tells a violation of the base. It is refused only for want of memory.
+/// The refusal that tells a violation of the base.
 pub fn base_refusal(
     alloc: Global,
     schema: &Schema,
@@ -143,8 +143,8 @@ pub fn base_refusal(
     Ok(Output::Refused(Refusal::BaseViolates, base_line(alloc, schema, violated)?))
 }
 
-/// The base of the session as a set of tuples, where it meets the mappings that are in force from the start; else the
-/// refusal that tells its first violation. It is refused only for want of memory.
+/// The base of the session as a set of tuples, where it meets the mappings that are in force from the start; else the refusal
+/// that tells its first violation.
 pub(crate) fn met_base(
     alloc: Global,
     session: &Session,

@@ -41,7 +41,7 @@ pub struct Journal {
     pub budget: Budget,
 }
 
-// The mappings that no update adds. It takes no memory.
+// The mappings that no update adds.
 fn initial_mappings(mappings: MappingList) -> MappingList
     ensures { mappings_of result ≡ initial_mappings (mappings_of mappings) }
 {
@@ -50,7 +50,7 @@ fn initial_mappings(mappings: MappingList) -> MappingList
     List::from_vec(kept)
 }
 
-// What the session begins with. It takes no memory.
+// What the session begins with.
 fn opening_of(alloc: Global, session: Session) -> Session
     ensures { session_of result ≡ opening_of (session_of session) }
 {

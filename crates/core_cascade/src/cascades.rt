@@ -30,10 +30,9 @@ pub struct Cascade<'a> {
 }
 
 impl<'a> Cascade<'a> {
-    /// Why each of the updates above is restarted, if it is, where the event's update wrote: a conflict with its writes, or
-    /// else a dependence on a lower one that is restarted. Handed in are the writes that came or went by the event. There is
-    /// one answer for each of the first, in order, up to the last that is restarted; of those behind them none is. It is refused
-    /// only for want of memory.
+    /// Why each of the updates above is restarted, if it is, where the event's update wrote: a conflict with its writes, or else
+    /// a dependence on a lower one that is restarted. Handed in are the writes that came or went by the event. There is one
+    /// answer for each of the first, in order, up to the last that is restarted; of those behind them none is.
     pub fn causes_of_writes(
         &self,
         alloc: Global,
@@ -54,9 +53,9 @@ impl<'a> Cascade<'a> {
         Ok(found)
     }
 
-    /// Why each of the updates above is restarted, if it is, where the event's update loses its trail, which is handed in:
-    /// a dependence on it or on a lower one that is restarted. There is one answer for each of the first, in order, up to the
-    /// last that is restarted; of those behind them none is. It is refused only for want of memory.
+    /// Why each of the updates above is restarted, if it is, where the event's update loses its trail, which is handed in: a
+    /// dependence on it or on a lower one that is restarted. There is one answer for each of the first, in order, up to the last
+    /// that is restarted; of those behind them none is.
     pub fn causes_of_loss(
         &self,
         alloc: Global,

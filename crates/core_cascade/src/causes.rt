@@ -13,8 +13,8 @@ use core_queue::QueuedUpdate;
 use std::alloc::Global;
 
 impl<'a> Cascade<'a> {
-    /// Why the reader is restarted, if it is: for its conflict with the writes, or else for a dependence on the trails that
-    /// are lost below it. It is refused only for want of memory.
+    /// Why the reader is restarted, if it is: for its conflict with the writes, or else for a dependence on the trails that are
+    /// lost below it.
     pub(crate) fn cause_for(
         &self,
         alloc: Global,

@@ -27,7 +27,7 @@ pub(crate) struct Lost<'r> {
 }
 
 impl<'r> Lost<'r> {
-    /// Nothing is lost. It is refused only for want of memory.
+    /// Nothing is lost.
     pub(crate) fn none(alloc: Global, whole: &Versions) -> Result<Lost<'r>, Memory>
         ensures without { IfOk result (λ lost. lost.without ≡ whole.now) }
         ensures members { IfOk result (λ lost. lost.members.items ≡ []) }
@@ -39,7 +39,7 @@ impl<'r> Lost<'r> {
         })
     }
 
-    /// Loses the trail of the update of this number. It is refused only for want of memory.
+    /// Loses the trail of the update of this number.
     pub(crate) fn lose(
         &mut self,
         alloc: Global,
@@ -61,7 +61,7 @@ impl<'r> Lost<'r> {
         Ok(())
     }
 
-    /// Loses the trail of the reader, where it is restarted. It is refused only for want of memory.
+    /// Loses the trail of the reader, where it is restarted.
     pub(crate) fn lose_where(
         &mut self,
         alloc: Global,
@@ -81,7 +81,7 @@ impl<'r> Lost<'r> {
         Ok(())
     }
 
-    /// The first of the reads that mentions a relation of which a write is lost. It is refused only for want of memory.
+    /// The first of the reads that mentions a relation of which a write is lost.
     pub(crate) fn first_reached(
         &self,
         alloc: Global,

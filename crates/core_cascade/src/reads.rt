@@ -23,8 +23,8 @@ pub(crate) struct Numbered {
 }
 
 impl<'a> Cascade<'a> {
-    /// The first read of the reader that depends on what is lost: precisely, one that has another value without it;
-    /// coarsely, one that mentions a relation of it. It is refused only for want of memory.
+    /// The first read of the reader that depends on what is lost: precisely, one that has another value without it; coarsely, one
+    /// that mentions a relation of it.
     pub(crate) fn first_dependent(
         &self,
         alloc: Global,

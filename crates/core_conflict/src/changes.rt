@@ -25,9 +25,8 @@ pub struct Changed {
     pub now: Reply,
 }
 
-/// The first read of the log that a write of these trails meets and that has another value now, by the reader that logged
-/// it, where the facts lie below it; the writes came since the reads were made, or went. It is refused only for want of
-/// memory.
+/// The first read of the log that a write of these trails meets and that has another value now, by the reader that logged it,
+/// where the facts lie below it; the writes came since the reads were made, or went.
 pub fn first_changed<F: Facts>(
     alloc: Global,
     reader: &Reader<'_>,

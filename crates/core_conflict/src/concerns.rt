@@ -41,8 +41,8 @@ pub struct Reader<'r> {
 }
 
 impl<'r> Reader<'r> {
-    /// Whether a write of one of the trails may meet a read of the log. Where it says no, none does. It goes by the
-    /// mappings once, and not by each read that found no violation. It takes no memory.
+    /// Whether a write of one of the trails may meet a read of the log. Where it says no, none does. It goes by the mappings
+    /// once, and not by each read that found no violation.
     pub(crate) fn may_be_met(&self, trails: &[Trail<'_>], log: &[Logged]) -> bool
         ensures unmet { result ≡ false → meets_any (rules_in self.now.mappings.now)
             (heading_of self.now.direction) (map change_of self.now.own.now) self.now.sense
@@ -115,7 +115,7 @@ impl<'r> Reader<'r> {
         self.is_met(trails, read)
     }
 
-    /// Whether a write of one of the trails meets the read. It takes no memory.
+    /// Whether a write of one of the trails meets the read.
     pub(crate) fn is_met(&self, trails: &[Trail<'_>], read: &LoggedRead) -> bool
         ensures { result ≡ is_met_def (rules_in self.now.mappings.now)
             (heading_of self.now.direction) (map change_of self.now.own.now) self.now.sense

@@ -27,7 +27,7 @@ pub struct Footprint {
 }
 
 impl Footprint {
-    /// That of an attempt at its start. It takes no memory.
+    /// That of an attempt at its start.
     pub fn empty() -> Footprint
         ensures covers { Covers result [] [] }
     {
@@ -39,7 +39,7 @@ impl Footprint {
         }
     }
 
-    /// That of the attempt once it has made these own writes and these reads more. It takes no memory.
+    /// That of the attempt once it has made these own writes and these reads more.
     pub fn after(self, writes: &[Write], reads: &[Logged]) -> Footprint
         ensures covers { CoversMore self (map change_of writes.now) (reads_in reads.now)
             result }
@@ -130,7 +130,7 @@ impl Footprint {
         }
     }
 
-    /// Whether a write of that impact may meet a read of the attempt, which goes in this direction. It takes no memory.
+    /// Whether a write of that impact may meet a read of the attempt, which goes in this direction.
     #[inline(always)]
     pub fn may_be_met(&self, direction: Direction, impact: &Impact) -> bool
         ensures unmet { result ≡ false → IsNoneMet (heading_of direction) self.now impact.now }

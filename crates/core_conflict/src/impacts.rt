@@ -37,7 +37,7 @@ pub(crate) struct Key<'t> {
 }
 
 impl Impact {
-    /// That of no write. It takes no memory.
+    /// That of no write.
     pub fn none() -> Impact {
         Impact {
             forward: Reach::none(),
@@ -46,7 +46,7 @@ impl Impact {
         }
     }
 
-    /// That of these writes more, which came or went. It takes no memory.
+    /// That of these writes more, which came or went.
     pub fn with(self, mappings: &MappingList, sense: Sense, writes: &[Write]) -> Impact
         ensures more { IsImpactWithin self result }
         ensures has { list_all (has_change result (rules_in mappings.now) sense)

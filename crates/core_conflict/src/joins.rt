@@ -13,7 +13,7 @@ use base_types::{
 };
 
 /// Whether the tuple may decide which violation of the mapping is the first that the own writes caused in this direction: it
-/// joins with one of them, or it is of a relation of the mapping and they put mappings in force. It takes no memory.
+/// joins with one of them, or it is of a relation of the mapping and they put mappings in force.
 pub(crate) fn may_decide(
     mapping: Option<&Mapping>,
     direction: Direction,
@@ -40,7 +40,7 @@ fn may_decide_of(mapping: &Mapping, direction: Direction, own: &[Write], tuple: 
     joins_either(mapping, direction, own, tuple)
 }
 
-/// Whether tuples that join with no own write may decide violations as well. It takes no memory.
+/// Whether tuples that join with no own write may decide violations as well.
 pub(crate) fn counts_all(direction: Direction, own: &[Write]) -> bool
     ensures { result ≡ counts_all_def (heading_of direction) (map change_of own.now) }
 {
@@ -62,7 +62,7 @@ fn joins_either(mapping: &Mapping, direction: Direction, own: &[Write], tuple: &
 }
 
 /// Whether the write may make a violation of the mapping that the own writes caused in this direction, where there was none: it
-/// breaks the mapping, or its tuple is of a relation of the mapping and they put mappings in force. It takes no memory.
+/// breaks the mapping, or its tuple is of a relation of the mapping and they put mappings in force.
 pub(crate) fn may_make(
     mapping: Option<&Mapping>,
     direction: Direction,
@@ -96,7 +96,7 @@ fn may_make_of(
     breaks(mapping, direction, sense, own, write)
 }
 
-/// Whether the write may break one of the mappings, with one of the own writes. It takes no memory.
+/// Whether the write may break one of the mappings, with one of the own writes.
 pub(crate) fn breaks_some(
     mappings: &MappingList,
     direction: Direction,

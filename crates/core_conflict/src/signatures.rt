@@ -13,14 +13,14 @@ pub struct Signature {
 }
 
 impl Signature {
-    /// The set without spots. It takes no memory.
+    /// The set without spots.
     pub(crate) fn empty() -> Signature
         ensures empty { (k : ℕ) → has_spot result k ≡ false }
     {
         Signature { low: 0, high: 0 }
     }
 
-    /// The set with one more spot. It takes no memory.
+    /// The set with one more spot.
     pub(crate) fn with(self, spot: u32) -> Signature
         requires { spot < 16384 }
         ensures more { IsWithin self result }
@@ -32,7 +32,7 @@ impl Signature {
         }
     }
 
-    /// Whether the sets may have a spot in common. Where it says no, they have none. It takes no memory.
+    /// Whether the sets may have a spot in common. Where it says no, they have none.
     #[inline(always)]
     pub(crate) fn shares(self, other: Signature) -> bool
         ensures apart { result ≡ false → AreApart self other }
@@ -44,7 +44,7 @@ impl Signature {
     }
 }
 
-/// The spot of the value in this column of a tuple of the relation. It takes no memory.
+/// The spot of the value in this column of a tuple of the relation.
 pub(crate) fn spot(relation: u16, column: u64, value: &Value) -> u32
     ensures spot { result ≡ spot_def relation column (datum_of value.now) }
     ensures below { result < 16384 }
@@ -55,7 +55,7 @@ pub(crate) fn spot(relation: u16, column: u64, value: &Value) -> u32
     (low % 128 * 128 + high % 128) as u32
 }
 
-/// The spot of the relation. It takes no memory.
+/// The spot of the relation.
 pub(crate) fn home(relation: u16) -> u32
     ensures home { result ≡ home_def relation }
     ensures below { result < 16384 }

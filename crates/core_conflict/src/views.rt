@@ -14,7 +14,7 @@ pub(crate) struct EarlierView<'a, F: Facts> {
 }
 
 #[tactic(auto, using(crate::proofs::Seeing::seen_anew, crate::proofs::Seeing::seen_on))]
-/// Takes the view from the first `seen` own writes to the first `count`. It is refused only for want of memory.
+/// Takes the view from the first `seen` own writes to the first `count`.
 pub(crate) fn see<'a, F: Facts>(
     alloc: Global,
     view: &mut View<'a, F>,

@@ -10,8 +10,8 @@ use core_entries::{Entry, EntryList};
 use core_queue::QueuedUpdate;
 use std::alloc::Global;
 
-/// Admits the update behind the others, with no recorded answers. It gives its number. It is refused only for want of
-/// memory: it then hands the update back, and what the queue and the history mean stays.
+/// Admits the update behind the others, with no recorded answers. It gives its number. If it is refused, it hands the update
+/// back, and what the queue and the history mean stays.
 pub(crate) fn admit_at(
     alloc: Global,
     queue: &mut Vec<QueuedUpdate>,
@@ -49,8 +49,7 @@ fn next_number(queue: &[QueuedUpdate]) -> u32
     queue.len() as u32 + 1
 }
 
-// Makes room for the entry and for the update, and then puts its queued update behind the others. It is refused only
-// for want of memory.
+// Makes room for the entry and for the update, and then puts its queued update behind the others.
 fn prepare_admission(
     alloc: Global,
     queue: &mut Vec<QueuedUpdate>,

@@ -11,8 +11,7 @@ use core_queue::QueuedUpdate;
 use lang_session::SessionUpdate;
 use std::alloc::Global;
 
-/// The updates in number order, each at the start of its attempt 0 and with its recorded answers. It is refused only for
-/// want of memory.
+/// The updates in number order, each at the start of its attempt 0 and with its recorded answers.
 pub(crate) fn admitted(
     alloc: Global,
     updates: &[SessionUpdate],
@@ -34,7 +33,7 @@ pub(crate) fn admitted(
 // Most updates have no more entries than this, their admissions among them.
 const MOST_ENTRIES: usize = 6;
 
-/// The entries of the admissions of these updates. It is refused only for want of memory.
+/// The entries of the admissions of these updates.
 pub(crate) fn admissions(alloc: Global, updates: &[SessionUpdate]) -> Result<EntryList, Memory>
     requires few { length updates.now ≤ 1000 }
     ensures entries { IfOk result (λ history. map entry_of history.items ≡ admissions_from 1

@@ -14,8 +14,8 @@ use lang_session::admits;
 use std::alloc::Global;
 
 impl<'s> Core<'s> {
-    /// Whether the update may be admitted next, over the relations of this schema: it fits them, its words are at most 256
-    /// bytes of UTF-8, its nulls come from updates that are there, and it puts no mapping in force. It takes no memory.
+    /// Whether the update may be admitted next, over the relations of this schema: it fits them, its words are at most 256 bytes
+    /// of UTF-8, its nulls come from updates that are there, and it puts no mapping in force.
     pub fn admits(&self, schema: &Schema, update: &Update) -> bool
         ensures admits { result ≡ admits_at self.now schema.now
             (operation_of update.now.operation) }
@@ -41,8 +41,7 @@ impl<'s> Core<'s> {
         }
     }
 
-    // Admits one more update; there are fewer than the most. It is refused only for want of memory, and then hands the
-    // update back.
+    // Admits one more update; there are fewer than the most. If it is refused, it hands the update back.
     fn make_admission(&mut self, alloc: Global, update: Update) -> Result<u32, Update>
         requires few { length (updates_at self.old) < 1000 }
         ensures made { OnOk result (HasAdmitted self.old (operation_of update.operation) self.new) }

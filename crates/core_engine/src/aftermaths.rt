@@ -18,8 +18,8 @@ pub(crate) struct Aftermath {
     pub(crate) causes: CauseList,
 }
 
-/// What is left where the updates above restart that have a cause, which was looked for among the first of them: the
-/// versions lose their trails. It is refused only for want of memory; some of the trails may be gone then.
+/// What is left where the updates above restart that have a cause, which was looked for among the first of them: the versions
+/// lose their trails. If it is refused, some of the trails may be gone.
 pub(crate) fn settled(
     alloc: Global,
     versions: &mut Versions,

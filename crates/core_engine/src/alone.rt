@@ -29,8 +29,8 @@ pub(crate) fn is_alone(readers: usize, program: &Attempt) -> bool
     !has_spent(program)
 }
 
-/// What the step of the plan leaves, where none of the updates above has read anything. Its writes go into the versions, which
-/// is the last that can fail. It is refused only for want of memory; the versions are then as they were.
+/// What the step of the plan leaves, where none of the updates above has read anything. Its writes go into the versions, which is
+/// the last that can fail. If it is refused, the versions are as they were.
 pub(crate) fn prepare_alone(
     alloc: Global,
     versions: &mut Versions,

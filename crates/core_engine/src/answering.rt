@@ -72,8 +72,7 @@ impl<'s> Core<'s> {
         }
     }
 
-    // Answers the question of the update, which is paused; the choice fits. It is refused only for want of memory, and then
-    // hands the choice back.
+    // Answers the question of the update, which is paused; the choice fits. If it is refused, it hands the choice back.
     fn make_answer(&mut self, alloc: Global, update: u32, choice: Choice) -> Result<u64, Choice>
         requires paused { is_paused_in (standing_at self.old update) ≡ true }
         requires fits { fits_at self.old update (choice_of choice) ≡ true }

@@ -13,8 +13,8 @@ use core_entries::{Entry, EntryList};
 use core_queue::{QueuedUpdate, Settings, committed};
 use std::alloc::Global;
 
-/// Puts the choice where the update at the place waits for an answer. It is refused only for want of memory: it then hands
-/// the choice back, and what the queue and the history mean stays.
+/// Puts the choice where the update at the place waits for an answer. If it is refused, it hands the choice back, and what the
+/// queue and the history mean stays.
 pub(crate) fn answer_at(
     alloc: Global,
     settings: Settings,
@@ -41,8 +41,7 @@ pub(crate) fn answer_at(
     }
 }
 
-// Makes room for the answer, and a copy of the choice for its entry. It is refused only for want of memory. What queue and
-// history mean stays.
+// Makes room for the answer, and a copy of the choice for its entry. What queue and history mean stays.
 fn prepare_answer(
     alloc: Global,
     queue: &mut [QueuedUpdate],

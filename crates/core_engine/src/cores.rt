@@ -89,8 +89,7 @@ impl<'s> Model for Core<'s> {
 }
 
 impl<'s> Core<'s> {
-    /// The core of a session to which all its updates are admitted, each with its recorded answers. It is refused only
-    /// for want of memory.
+    /// The core of a session to which all its updates are admitted, each with its recorded answers.
     pub fn open(
         alloc: Global,
         session: &'s Session,
@@ -106,7 +105,7 @@ impl<'s> Core<'s> {
         Core::open_over(alloc, session, base, settings, budget)
     }
 
-    /// The same over its base, which is handed over as a set of tuples (`base_of`). It is refused only for want of memory.
+    /// The same over its base, which is handed over as a set of tuples (`base_of`).
     pub fn open_over(
         alloc: Global,
         session: &'s Session,
@@ -145,29 +144,28 @@ impl<'s> Core<'s> {
         })
     }
 
-    /// How many updates there are. It takes no memory.
+    /// How many updates there are.
     pub fn count(&self) -> u32
         ensures count { result ≡ length (updates_at self.now) }
     {
         self.queue.as_slice().len() as u32
     }
 
-    /// How many updates are committed. It takes no memory.
+    /// How many updates are committed.
     pub fn committed(&self) -> u32
         ensures committed { result ≡ committed_at self.now }
     {
         committed_from(&self.queue, self.least)
     }
 
-    /// What the update of this number may do next; None exactly where there is none. It takes no memory.
+    /// What the update of this number may do next; None exactly where there is none.
     pub fn standing(&self, update: u32) -> Option<Standing>
         ensures standing { option_map standing_of result ≡ standing_at self.now update }
     {
         standing(&self.queue, self.settings, update)
     }
 
-    /// The question that is put to people for the update of this number: there is one exactly where it is paused. It
-    /// takes no memory.
+    /// The question that is put to people for the update of this number: there is one exactly where it is paused.
     pub fn question(&self, update: u32) -> Option<&Question>
         ensures question { option_map inquiry_of (option_copied result) ≡ option_map inquiry_in
             (question_at self.now update) }
@@ -175,21 +173,21 @@ impl<'s> Core<'s> {
         question(&self.queue, self.settings, update)
     }
 
-    /// Whether an answer is recorded for the update of this number that was not delivered yet. It takes no memory.
+    /// Whether an answer is recorded for the update of this number that was not delivered yet.
     pub fn has_waiting(&self, update: u32) -> bool
         ensures waiting { result ≡ has_waiting_def self.now update }
     {
         has_waiting(&self.queue, update)
     }
 
-    /// The lowest update that is ready, if one is. It takes no memory.
+    /// The lowest update that is ready, if one is.
     pub fn lowest_ready(&self) -> Option<u32>
         ensures lowest { result ≡ lowest_ready_at self.now }
     {
         lowest_ready(&self.queue, self.settings, self.least)
     }
 
-    /// The lowest update that is ready and is none of these, if there is one. It takes no memory.
+    /// The lowest update that is ready and is none of these, if there is one.
     pub fn lowest_ready_besides(&self, numbers: &[u32]) -> Option<u32>
         ensures lowest { result ≡ lowest_ready_besides_at self.now numbers.now }
     {
@@ -202,14 +200,14 @@ impl<'s> Core<'s> {
         )
     }
 
-    /// The lowest update to which a recorded answer can be delivered, if there is one. It takes no memory.
+    /// The lowest update to which a recorded answer can be delivered, if there is one.
     pub fn lowest_deliverable(&self) -> Option<u32>
         ensures lowest { result ≡ lowest_deliverable_at self.now }
     {
         lowest_deliverable(&self.queue, self.settings, self.least)
     }
 
-    /// The first update that is not committed, if a recorded answer can be delivered to it. It takes no memory.
+    /// The first update that is not committed, if a recorded answer can be delivered to it.
     pub fn next_deliverable(&self) -> Option<u32>
         ensures next { result ≡ next_deliverable_at self.now }
         ensures lowest { IfSome result (λ n. lowest_deliverable_at self.now ≡ Some n) }
@@ -217,14 +215,14 @@ impl<'s> Core<'s> {
         next_deliverable(&self.queue, self.settings, self.least)
     }
 
-    /// Whether nothing is ready, and nothing deliverable. It takes no memory.
+    /// Whether nothing is ready, and nothing deliverable.
     pub fn is_quiet(&self) -> bool
         ensures quiet { result ≡ is_quiet_at self.now }
     {
         is_quiet(&self.queue, self.settings, self.least)
     }
 
-    /// The entries of the history. It takes no memory.
+    /// The entries of the history.
     pub fn history(&self) -> &[Entry]
         ensures history { map entry_of result.now ≡ self.now.history }
     {
@@ -240,8 +238,7 @@ impl<'s> Core<'s> {
         let _ = &self.queue;
     }
 
-    /// What is needed to plan the next step of an update that is ready, whatever is done meanwhile. It is refused only for
-    /// want of memory.
+    /// What is needed to plan the next step of an update that is ready, whatever is done meanwhile.
     pub fn snapshot(&self, alloc: Global, update: u32) -> Result<Snapshot<'s>, Memory>
         requires ready { standing_at self.now update ≡ Some Ready }
         ensures update { IfOk result (λ snapshot. snapshot.update ≡ update) }
@@ -254,8 +251,8 @@ impl<'s> Core<'s> {
         Ok(snapshot)
     }
 
-    /// The next step of an update that is ready, planned without a snapshot. The core keeps what the step tells of mappings, which
-    /// nobody sees. It is refused only for want of memory.
+    /// The next step of an update that is ready, planned without a snapshot. The core keeps what the step tells of mappings,
+    /// which nobody sees.
     pub fn next_plan(&mut self, alloc: Global, update: u32) -> Result<Plan, Memory>
         requires ready { standing_at self.old update ≡ Some Ready }
         ensures same { self.new ≡ self.old }
@@ -270,8 +267,8 @@ impl<'s> Core<'s> {
         plan_at(alloc, mappings, self.budget, versions, queue, place, known)
     }
 
-    /// Makes the step of the plan, which is the next one of its update at the present state. It gives the number of the
-    /// entry. It is refused only for want of memory; the core is then unchanged.
+    /// Makes the step of the plan, which is the next one of its update at the present state. It gives the number of the entry. If
+    /// it is refused, the core is unchanged.
     pub fn install(&mut self, alloc: Global, plan: Plan) -> Result<u64, Memory>
         requires ready { standing_at self.old plan.update ≡ Some Ready }
         requires step { IsStepAt self.old plan }

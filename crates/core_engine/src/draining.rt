@@ -9,7 +9,7 @@ use std::alloc::Global;
 
 impl<'s> Core<'s> {
     /// Makes turns until nothing is ready and nothing can be delivered: each is a step of the lowest ready update, else a
-    /// delivery to the lowest that can have one. It is refused only for want of memory; the turns made until then stay.
+    /// delivery to the lowest that can have one. If it is refused, the turns made before that stay.
     pub fn drain(&mut self, alloc: Global) -> Result<(), Memory>
         ensures turned { HasTurned self.old self.new }
         ensures quiet { OnOk result (is_quiet_at self.new ≡ true) }
@@ -21,7 +21,7 @@ impl<'s> Core<'s> {
         }
     }
 
-    // Makes the next turn, if there is one. It is refused only for want of memory; nothing is then changed.
+    // Makes the next turn, if there is one. If it is refused, nothing is changed.
     fn turn(&mut self, alloc: Global) -> Result<bool, Memory>
         ensures made { IfOk result (λ made. HasMadeTurn made self.old self.new) }
         ensures kept { OnErr result (self.new ≡ self.old) }

@@ -23,7 +23,7 @@ pub(crate) struct Known {
 impl Known {
     ghost use Rattle.core_engine.specs.Known.{AreMarksOver};
 
-    /// The marks of no update. It is refused only for want of memory.
+    /// The marks of no update.
     pub(crate) fn none(alloc: Global) -> Result<Known, Memory>
         ensures none { IfOk result (λ known. known.update ≡ 0) }
     {
@@ -35,8 +35,8 @@ impl Known {
         })
     }
 
-    /// The mappings that are settled for the queued update, by its marks if they are there, and else by its log. From
-    /// then on there are marks of no update. It is refused only for want of memory.
+    /// The mappings that are settled for the queued update, by its marks if they are there, and else by its log. From then on
+    /// there are marks of no update.
     pub(crate) fn take(
         &mut self,
         alloc: Global,
@@ -62,7 +62,7 @@ impl Known {
         Ok(settled)
     }
 
-    /// The number of the update, if there are marks of it; else 0. It takes no memory.
+    /// The number of the update, if there are marks of it; else 0.
     pub(crate) fn number_of(&self, update: u32) -> u32
         ensures known { 1 ≤ result → self.now.update ≡ result }
         ensures update { 1 ≤ result → result ≡ update }
@@ -70,7 +70,7 @@ impl Known {
         if self.update == update { update } else { 0 }
     }
 
-    /// Keeps the marks of the update, that are right when its attempt has made so many writes. It takes no memory.
+    /// Keeps the marks of the update, that are right when its attempt has made so many writes.
     pub(crate) fn keep(&mut self, update: u32, made: u64, marks: Settled)
         ensures update { self.new.update ≡ update }
         ensures made { self.new.made ≡ made }

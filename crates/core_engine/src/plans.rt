@@ -44,21 +44,21 @@ impl Model for Plan {
 }
 
 impl Plan {
-    /// The update's number. It takes no memory.
+    /// The update's number.
     pub fn update(&self) -> u32
         ensures update { result ≡ self.now.update }
     {
         self.update
     }
 
-    /// The number of the attempt that makes the step. It takes no memory.
+    /// The number of the attempt that makes the step.
     pub fn attempt(&self) -> u32
         ensures attempt { result ≡ self.now.program.attempt.attempt }
     {
         self.step.program.attempt()
     }
 
-    /// The reads of the step, in order, as the entries of a log. It takes no memory.
+    /// The reads of the step, in order, as the entries of a log.
     pub fn reads(&self) -> &[Logged]
         ensures reads { reads_in result.now ≡ self.now.reads }
     {
@@ -91,7 +91,7 @@ impl<'s> Model for Snapshot<'s> {
 }
 
 impl<'s> Snapshot<'s> {
-    /// The plan of the step. It is refused only for want of memory.
+    /// The plan of the step.
     pub fn plan(&self, alloc: Global) -> Result<Plan, Memory>
         ensures same { IfOk result (λ plan. plan ≡ self.now) }
     {
@@ -123,7 +123,7 @@ impl<'s> Snapshot<'s> {
         })
     }
 
-    /// The update's number. It takes no memory.
+    /// The update's number.
     pub fn update(&self) -> u32
         ensures update { result ≡ self.now.update }
     {
@@ -131,9 +131,9 @@ impl<'s> Snapshot<'s> {
     }
 }
 
-/// The plan of the next step of the update at the place, which is ready, by what is known of it; its marks are kept. It is made on a
-/// branch of the attempt, which takes along what the attempt keeps to make more writes. It is refused only for want of memory;
-/// there are then marks of no update, or the same. The updates stay as they are.
+/// The plan of the next step of the update at the place, which is ready, by what is known of it; its marks are kept. It is made
+/// on a branch of the attempt, which takes along what the attempt keeps to make more writes. If it is refused, there are marks of
+/// no update, or the same. The updates stay as they are.
 pub(crate) fn plan_at(
     alloc: Global,
     mappings: &TouchedMappings<'_>,
@@ -210,7 +210,7 @@ fn plan_of(
     Ok(Plan { update, step })
 }
 
-/// A snapshot of the next step of the update at the place, which is ready. It is refused only for want of memory.
+/// A snapshot of the next step of the update at the place, which is ready.
 pub(crate) fn snapshot_at<'s>(
     alloc: Global,
     mappings: &TouchedMappings<'s>,

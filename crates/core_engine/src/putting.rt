@@ -19,8 +19,8 @@ use core_queue::{QueuedUpdate, Settings, committed_from};
 use set_versions::Versions;
 use std::alloc::Global;
 
-/// Makes the step of the plan, which is the next one of the update at the place. It gives how many are committed at least
-/// then. It is refused only for want of memory; what the queue and the history mean then stays.
+/// Makes the step of the plan, which is the next one of the update at the place. It gives how many are committed at least then.
+/// If it is refused, what the queue and the history mean stays.
 pub(crate) fn step_at(
     alloc: Global,
     scene: &Scene<'_>,
@@ -67,8 +67,8 @@ pub(crate) fn step_at(
     }
 }
 
-// Makes room for the step of the plan, and prepares what it leaves. The versions are put in place with it. It is refused only
-// for want of memory; the versions are then as they were. What queue and history mean stays.
+// Makes room for the step of the plan, and prepares what it leaves. The versions are put in place with it. If it is refused, the
+// versions are as they were. What queue and history mean stays.
 fn ready_step(
     alloc: Global,
     scene: &Scene<'_>,

@@ -18,8 +18,8 @@ use lang_session::Session;
 use std::alloc::Global;
 
 impl<'s> Core<'s> {
-    /// How the committed updates ended, where the lowest that is not committed stops, and the repository that the committed
-    /// ones left, nulls by their outer forms. It is refused only for want of memory.
+    /// How the committed updates ended, where the lowest that is not committed stops, and the repository that the committed ones
+    /// left, nulls by their outer forms.
     pub fn result(&self, alloc: Global) -> Result<SessionResult, Memory>
         ensures told { IfOk result (IsResultOf self.now) }
     {
@@ -28,8 +28,7 @@ impl<'s> Core<'s> {
     }
 }
 
-/// What the session comes to by a core that is drained: whatever the settings, that is the serial run. It is refused only
-/// for want of memory.
+/// What the session comes to by a core that is drained: whatever the settings, that is the serial run.
 pub fn drained(
     alloc: Global,
     session: &Session,
@@ -46,7 +45,7 @@ pub fn drained(
     came_to(alloc, &mut core)
 }
 
-// What the core comes to once it is drained. It is refused only for want of memory.
+// What the core comes to once it is drained.
 fn came_to(alloc: Global, core: &mut Core<'_>) -> Result<SessionResult, Memory>
     ensures turned { HasTurned core.old core.new }
     ensures quiet { OnOk result (is_quiet_at core.new ≡ true) }

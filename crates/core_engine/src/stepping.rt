@@ -31,9 +31,8 @@ pub(crate) struct Prepared {
     pub(crate) left: Aftermath,
 }
 
-/// What the step of the plan leaves. The plan is one of the update at the spot, and so many updates are committed. The
-/// versions after it are made aside, and put in place last. It is refused only for want of memory; the versions are then
-/// as they were.
+/// What the step of the plan leaves. The plan is one of the update at the spot, and so many updates are committed. The versions
+/// after it are made aside, and put in place last. If it is refused, the versions are as they were.
 pub(crate) fn prepare(
     alloc: Global,
     scene: &Scene<'_>,
@@ -142,7 +141,7 @@ pub(crate) fn hides(program: &Attempt) -> bool
     )
 }
 
-/// Copies of the writes. It is refused only for want of memory.
+/// Copies of the writes.
 pub(crate) fn copied(alloc: Global, writes: &[Write]) -> Result<WriteList, Memory>
     ensures same { IfOk result (λ copies. map change_of copies.items ≡ map change_of writes.now) }
 {
@@ -153,8 +152,8 @@ pub(crate) fn copied(alloc: Global, writes: &[Write]) -> Result<WriteList, Memor
     Ok(copies)
 }
 
-/// What the step of the plan leaves. The plan is one of the update at the place. The versions are put in place with it.
-/// It is refused only for want of memory; the versions are then as they were.
+/// What the step of the plan leaves. The plan is one of the update at the place. The versions are put in place with it. If it is
+/// refused, the versions are as they were.
 pub(crate) fn prepare_at(
     alloc: Global,
     scene: &Scene<'_>,
@@ -261,7 +260,7 @@ pub(crate) fn put_last(history: &mut EntryList, entry: Entry)
     }
 }
 
-/// Makes room for the step of the plan. It is refused only for want of memory. What queue and history mean stays.
+/// Makes room for the step of the plan. What queue and history mean stays.
 pub(crate) fn reserve_step(
     queue: &mut [QueuedUpdate],
     history: &mut EntryList,

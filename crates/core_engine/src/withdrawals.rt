@@ -19,8 +19,7 @@ use core_queue::{QueuedUpdate, Settings, committed, restart_marked};
 use set_versions::Versions;
 use std::alloc::Global;
 
-/// Withdraws the update at the place. It is refused only for want of memory; what the history means then stays, and the
-/// rest is unchanged.
+/// Withdraws the update at the place. If it is refused, what the history means stays, and the rest is unchanged.
 pub(crate) fn withdraw_at(
     alloc: Global,
     mappings: &Mappings<'_>,
@@ -45,8 +44,7 @@ pub(crate) fn withdraw_at(
     Ok(())
 }
 
-// Withdraws the update at the place. There is room for the entry. It is refused only for want of memory; nothing is then
-// changed.
+// Withdraws the update at the place. There is room for the entry. If it is refused, nothing is changed.
 fn make_withdrawal(
     alloc: Global,
     mappings: &Mappings<'_>,
@@ -74,8 +72,8 @@ fn make_withdrawal(
     Ok(())
 }
 
-// What the withdrawal of the update at the place leaves. The versions are put in place with it. It is refused only for want of
-// memory; the versions are then as they were.
+// What the withdrawal of the update at the place leaves. The versions are put in place with it. If it is refused, the versions
+// are as they were.
 fn prepare_loss_at(
     alloc: Global,
     mappings: &Mappings<'_>,
@@ -98,9 +96,8 @@ fn prepare_loss_at(
     prepare_loss(alloc, mappings, settings, committed, versions, item, upper)
 }
 
-// What the withdrawal of the queued update leaves, where `upper` are the updates above it, and so many are committed.
-// The versions after it are made aside, and put in place last. It is refused only for want of memory; the versions are
-// then as they were.
+// What the withdrawal of the queued update leaves, where `upper` are the updates above it, and so many are committed. The
+// versions after it are made aside, and put in place last. If it is refused, the versions are as they were.
 fn prepare_loss(
     alloc: Global,
     mappings: &Mappings<'_>,

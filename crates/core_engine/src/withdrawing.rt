@@ -59,7 +59,7 @@ impl<'s> Core<'s> {
         }
     }
 
-    // Withdraws the update, which is neither committed nor withdrawn. It is refused only for want of memory.
+    // Withdraws the update, which is neither committed nor withdrawn.
     fn make_withdrawal(&mut self, alloc: Global, update: u32) -> Result<u64, Memory>
         requires live { is_live_in (standing_at self.old update) (committed_at self.old) update ≡
             true }

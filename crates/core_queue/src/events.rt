@@ -18,8 +18,7 @@ use std::mem;
 const MOST_READS: usize = 32;
 
 impl QueuedUpdate {
-    /// The update of this number as it is when it is admitted, with these answers recorded for it. It is refused only for
-    /// want of memory.
+    /// The update of this number as it is when it is admitted, with these answers recorded for it.
     pub fn admit(
         alloc: Global,
         update: &Update,
@@ -40,7 +39,7 @@ impl QueuedUpdate {
         })
     }
 
-    /// Makes room for the reads of the plan. It is refused only for want of memory. The update stays as it is.
+    /// Makes room for the reads of the plan. The update stays as it is.
     pub fn reserve_reads(&mut self, plan: &Plan) -> Result<(), Memory>
         ensures room { OnOk result (HasRoomFor plan.now self.new) }
         ensures same { IsSame self.old self.new }
@@ -53,7 +52,7 @@ impl QueuedUpdate {
         self.log.reserve(reads)
     }
 
-    /// Makes room for one more answer. It is refused only for want of memory. The update stays as it is.
+    /// Makes room for one more answer. The update stays as it is.
     pub fn reserve_answer(&mut self) -> Result<(), Memory>
         ensures room { OnOk result (HasRoom self.new) }
         ensures same { IsSame self.old self.new }
@@ -62,7 +61,7 @@ impl QueuedUpdate {
         self.answers.reserve(1)
     }
 
-    /// Makes the step of the plan: its attempt and its reads are taken over. It takes no memory.
+    /// Makes the step of the plan: its attempt and its reads are taken over.
     pub fn follow(&mut self, plan: Plan)
         requires room { HasRoomFor plan self.old }
         ensures stepped { HasStepped plan self.old self.new }
@@ -76,7 +75,7 @@ impl QueuedUpdate {
         take_over(&mut self.log, reads);
     }
 
-    /// Delivers the first recorded answer, if there is one. It takes no memory.
+    /// Delivers the first recorded answer, if there is one.
     pub fn deliver(&mut self)
         requires room { HasRoom self.old }
         ensures delivered { HasDelivered self.old self.new }
@@ -87,8 +86,7 @@ impl QueuedUpdate {
         }
     }
 
-    /// Puts the choice where the attempt waits for an answer; answers that were delivered for later questions are
-    /// dropped. It takes no memory.
+    /// Puts the choice where the attempt waits for an answer; answers that were delivered for later questions are dropped.
     pub fn answer(&mut self, alloc: Global, choice: Choice)
         requires room { HasRoom self.old }
         ensures answered { HasAnswered choice self.old self.new }
@@ -103,7 +101,7 @@ impl QueuedUpdate {
         }
     }
 
-    /// Withdraws the update: it loses its trail and its log. It takes no memory.
+    /// Withdraws the update: it loses its trail and its log.
     pub fn withdraw(&mut self)
         ensures withdrawn { HasWithdrawn self.old self.new }
         ensures place { KeepsPlace self.old self.new }
@@ -113,14 +111,14 @@ impl QueuedUpdate {
     }
 }
 
-// Puts the attempt in the place of another one, which is let go. It takes no memory.
+// Puts the attempt in the place of another one, which is let go.
 pub(crate) fn renew(place: &mut Attempt, fresh: Attempt)
     ensures fresh { place.new ≡ fresh }
 {
     drop(mem::replace(place, fresh));
 }
 
-// Copies of the answers as a queue. It is refused only for want of memory.
+// Copies of the answers as a queue.
 fn queued(alloc: Global, answers: &ChoiceList) -> Result<VecDeque<Choice>, Memory>
     ensures same { IfOk result (λ queue.
         map choice_of queue.items ≡ map choice_of answers.now.items) }

@@ -9,7 +9,7 @@ ghost use Rattle.core_queue.specs.Order.{HasCommitted, CommitsAtLeast, CommitsOn
 use crate::settings::Settings;
 use crate::updates::QueuedUpdate;
 
-/// How many updates are committed: the longest prefix of those that are over. It takes no memory.
+/// How many updates are committed: the longest prefix of those that are over.
 pub fn committed(queue: &[QueuedUpdate]) -> u32
     requires from { AreFrom 1 queue.now }
     ensures committed { HasCommitted queue.now result }
@@ -17,7 +17,7 @@ pub fn committed(queue: &[QueuedUpdate]) -> u32
     committed_from(queue, 0)
 }
 
-/// How many updates are committed, where at least so many are; those are not looked at. It takes no memory.
+/// How many updates are committed, where at least so many are; those are not looked at.
 pub fn committed_from(queue: &[QueuedUpdate], least: u32) -> u32
     requires from { AreFrom 1 queue.now }
     requires least { CommitsAtLeast queue.now least }
@@ -26,7 +26,7 @@ pub fn committed_from(queue: &[QueuedUpdate], least: u32) -> u32
     counted(behind(queue, least), least)
 }
 
-/// The least number of a ready update, if one is ready, where at least so many are committed. It takes no memory.
+/// The least number of a ready update, if one is ready, where at least so many are committed.
 pub fn lowest_ready(queue: &[QueuedUpdate], settings: Settings, least: u32) -> Option<u32>
     requires from { AreFrom 1 queue.now }
     requires least { CommitsAtLeast queue.now least }
@@ -37,7 +37,7 @@ pub fn lowest_ready(queue: &[QueuedUpdate], settings: Settings, least: u32) -> O
 }
 
 /// The least number of an update to which a recorded answer may be delivered, if there is one, where at least so many are
-/// committed. It takes no memory.
+/// committed.
 pub fn lowest_deliverable(queue: &[QueuedUpdate], settings: Settings, least: u32) -> Option<u32>
     requires from { AreFrom 1 queue.now }
     requires least { CommitsAtLeast queue.now least }
@@ -47,8 +47,8 @@ pub fn lowest_deliverable(queue: &[QueuedUpdate], settings: Settings, least: u32
     first_deliverable(behind(queue, committed), settings, committed)
 }
 
-/// The first update that is not committed, where at least so many are, if a recorded answer may be delivered to it. No lower
-/// one is deliverable then. It takes no memory.
+/// The first update that is not committed, where at least so many are, if a recorded answer may be delivered to it. No lower one
+/// is deliverable then.
 pub fn next_deliverable(queue: &[QueuedUpdate], settings: Settings, least: u32) -> Option<u32>
     requires from { AreFrom 1 queue.now }
     requires least { CommitsAtLeast queue.now least }
@@ -60,8 +60,8 @@ pub fn next_deliverable(queue: &[QueuedUpdate], settings: Settings, least: u32) 
     deliverable_at_once(behind(queue, committed), settings, committed)
 }
 
-/// The least number of a ready update that is none of these, if there is one, where at least so many are committed, and
-/// the first are unready, so many; those are not looked at. It takes no memory.
+/// The least number of a ready update that is none of these, if there is one, where at least so many are committed, and the first
+/// are unready, so many; those are not looked at.
 pub fn lowest_ready_besides(
     queue: &[QueuedUpdate],
     settings: Settings,
@@ -78,7 +78,7 @@ pub fn lowest_ready_besides(
     first_besides(queue, unready, settings, committed, numbers)
 }
 
-/// Whether nothing is ready, and nothing is deliverable, where at least so many are committed. It takes no memory.
+/// Whether nothing is ready, and nothing is deliverable, where at least so many are committed.
 pub fn is_quiet(queue: &[QueuedUpdate], settings: Settings, least: u32) -> bool
     requires from { AreFrom 1 queue.now }
     requires least { CommitsAtLeast queue.now least }

@@ -9,7 +9,7 @@ use base_types::Write;
 use chase_question::Question;
 use chase_update::{Attempt, Outcome, Want};
 
-/// How the attempt ended, if it did. It takes no memory.
+/// How the attempt ended, if it did.
 pub fn outcome(program: &Attempt) -> Option<Outcome>
     requires between { IsBetween program.now }
     ensures ended { HasEnded program.now (option_map end_of result) }
@@ -17,7 +17,7 @@ pub fn outcome(program: &Attempt) -> Option<Outcome>
     outcome_in(program.wants())
 }
 
-/// The question that the attempt is at, if it is at one. It takes no memory.
+/// The question that the attempt is at, if it is at one.
 pub fn asked(program: &Attempt) -> Option<&Question>
     requires between { IsBetween program.now }
     ensures asked { HasAsked program.now (option_map inquiry_of (option_copied result)) }
@@ -25,7 +25,7 @@ pub fn asked(program: &Attempt) -> Option<&Question>
     question_in(program.wants())
 }
 
-/// Whether the attempt ended out of its budget of steps. It takes no memory.
+/// Whether the attempt ended out of its budget of steps.
 pub fn has_spent(program: &Attempt) -> bool
     requires between { IsBetween program.now }
     ensures spent { HasSpent program.now result }
@@ -33,7 +33,7 @@ pub fn has_spent(program: &Attempt) -> bool
     is_spent(outcome(program))
 }
 
-/// The writes that the attempt shows to others: its own, and none where it ended spent or refused. It takes no memory.
+/// The writes that the attempt shows to others: its own, and none where it ended spent or refused.
 pub fn shown(program: &Attempt) -> &[Write]
     requires between { IsBetween program.now }
     ensures shown { HasShown program.now result.now }

@@ -4,8 +4,7 @@ ghost use Rattle.core_queue.specs.Order.{ReadsAtMost};
 
 use crate::updates::QueuedUpdate;
 
-/// How many of the first updates may have read something: behind the last that has, none does. At most so many have. It
-/// takes no memory.
+/// How many of the first updates may have read something: behind the last that has, none does. At most so many have.
 pub fn reads_at_most(queue: &[QueuedUpdate], most: u32) -> u32
     requires most { ReadsAtMost queue.now most }
     ensures most { ReadsAtMost queue.now result }

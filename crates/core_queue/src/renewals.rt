@@ -13,7 +13,7 @@ use core_entries::Cause;
 use std::alloc::Global;
 
 impl QueuedUpdate {
-    /// The next attempt at the update, at its start. It is refused only for want of memory.
+    /// The next attempt at the update, at its start.
     pub fn fresh(&self, alloc: Global) -> Result<Attempt, Memory>
         requires more { HasOneMore self.now }
         ensures fresh { IfOk result (IsFresh self.now) }
@@ -21,7 +21,7 @@ impl QueuedUpdate {
         self.program.anew(alloc)
     }
 
-    /// Begins the next attempt: the update loses its writes and its log, and keeps its answers. It takes no memory.
+    /// Begins the next attempt: the update loses its writes and its log, and keeps its answers.
     pub fn restart(&mut self, fresh: Attempt)
         requires fresh { IsFresh self.old fresh }
         ensures restarted { HasRestarted self.old self.new }
@@ -44,8 +44,7 @@ impl QueuedUpdate {
     }
 }
 
-/// The next attempts at those of the updates that have a cause, of which there is one or none for each of the first. It is
-/// refused only for want of memory.
+/// The next attempts at those of the updates that have a cause, of which there is one or none for each of the first.
 pub fn fresh_programs(
     alloc: Global,
     upper: &[QueuedUpdate],
@@ -80,7 +79,7 @@ fn fresh_if(
     }
 }
 
-/// Restarts those of the updates from place `from` on for which there is a fresh attempt, in turn. It takes no memory.
+/// Restarts those of the updates from place `from` on for which there is a fresh attempt, in turn.
 pub fn restart_marked(queue: &mut [QueuedUpdate], from: usize, fresh: Vec<Option<Attempt>>)
     requires place { from ≤ length queue.old }
     requires from { AreFrom 1 queue.old }

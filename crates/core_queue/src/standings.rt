@@ -21,8 +21,8 @@ use chase_update::{Lack, Outcome};
 use core_entries::Standing;
 
 impl QueuedUpdate {
-    /// The next answer for the attempt: there is one only where it is at a question. A ready update wants its next step
-    /// with just this. It takes no memory.
+    /// The next answer for the attempt: there is one only where it is at a question. A ready update wants its next step with just
+    /// this.
     pub fn next_answer(&self) -> Option<&Choice>
         requires between { IsBetween self.now.program }
         ensures next { HasNext self.now (option_map choice_of (option_copied result)) }
@@ -35,7 +35,7 @@ impl QueuedUpdate {
         }
     }
 
-    /// What the update may do next, where so many updates are committed and it has this number. It takes no memory.
+    /// What the update may do next, where so many updates are committed and it has this number.
     pub fn standing(&self, settings: Settings, committed: u32, number: u32) -> Standing
         requires between { IsBetween self.now.program }
         ensures standing { HasStanding (settings_of settings) committed number self.now result }
@@ -49,7 +49,7 @@ impl QueuedUpdate {
         }
     }
 
-    /// Whether the update may make a step. It takes no memory.
+    /// Whether the update may make a step.
     pub fn is_ready(&self, settings: Settings, committed: u32, number: u32) -> bool
         requires between { IsBetween self.now.program }
         ensures ready { IsReady (settings_of settings) committed number self.now result }
@@ -57,8 +57,8 @@ impl QueuedUpdate {
         is_ready(self.standing(settings, committed, number))
     }
 
-    /// Whether the update is unready, whatever the settings and however many are committed: it was withdrawn, its attempt
-    /// has ended, or something is lacking at its question. It takes no memory.
+    /// Whether the update is unready, whatever the settings and however many are committed: it was withdrawn, its attempt has
+    /// ended, or something is lacking at its question.
     pub fn is_unready(&self) -> bool
         requires between { IsBetween self.now.program }
         ensures unready { result ≡ true → IsUnready self.now }
@@ -66,7 +66,7 @@ impl QueuedUpdate {
         self.is_over() || self.lack().is_some()
     }
 
-    /// Whether a recorded answer may be delivered to the update: it is pending, and has one. It takes no memory.
+    /// Whether a recorded answer may be delivered to the update: it is pending, and has one.
     pub fn is_deliverable(&self, settings: Settings, committed: u32, number: u32) -> bool
         requires between { IsBetween self.now.program }
         ensures deliverable { IsDeliverable (settings_of settings) committed number self.now
@@ -77,7 +77,7 @@ impl QueuedUpdate {
         pending && recorded
     }
 
-    /// The question that is put to people for the update: there is one exactly where it is paused. It takes no memory.
+    /// The question that is put to people for the update: there is one exactly where it is paused.
     pub fn question(&self, settings: Settings, committed: u32, number: u32) -> Option<&Question>
         requires between { IsBetween self.now.program }
         ensures question { HasQuestion (settings_of settings) committed number self.now
@@ -117,7 +117,7 @@ impl QueuedUpdate {
         !self.inbox.is_empty()
     }
 
-    /// What is lacking at the question, if it is at one and something is. It takes no memory.
+    /// What is lacking at the question, if it is at one and something is.
     pub fn lack(&self) -> Option<Lack>
         requires between { IsBetween self.now.program }
         ensures lack { HasLack self.now (option_map lack_of result) }

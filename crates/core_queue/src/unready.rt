@@ -4,7 +4,7 @@ ghost use Rattle.core_queue.specs.Order.{UnreadyUpTo};
 
 use crate::updates::QueuedUpdate;
 
-/// How many of the first updates are unready, where so many are; those are not looked at. It takes no memory.
+/// How many of the first updates are unready, where so many are; those are not looked at.
 pub fn unready_from(queue: &[QueuedUpdate], first: usize) -> usize
     requires from { AreFrom 1 queue.now }
     requires first { UnreadyUpTo queue.now first }

@@ -24,7 +24,7 @@ pub struct QueuedUpdate {
 }
 
 impl QueuedUpdate {
-    /// The number of the update. It takes no memory.
+    /// The number of the update.
     pub fn number(&self) -> u32
         ensures number { result ≡ self.now.program.attempt.number }
     {
@@ -58,7 +58,7 @@ impl QueuedUpdate {
         }
     }
 
-    /// Whether it was withdrawn or its attempt has ended. It takes no memory.
+    /// Whether it was withdrawn or its attempt has ended.
     pub fn is_over(&self) -> bool
         requires between { IsBetween self.now.program }
         ensures over { IsOver self.now result }
@@ -66,8 +66,7 @@ impl QueuedUpdate {
         self.withdrawn || outcome(&self.program).is_some()
     }
 
-    /// Whether it is neither withdrawn nor committed, where so many updates are committed and it has this number. It
-    /// takes no memory.
+    /// Whether it is neither withdrawn nor committed, where so many updates are committed and it has this number.
     pub fn is_live(&self, committed: u32, number: u32) -> bool
         ensures live { IsLive committed number self.now result }
     {

@@ -9,7 +9,7 @@ use chase_update::{Attempt, Finish, FinishList};
 use core_queue::{QueuedUpdate, outcome};
 use std::alloc::Global;
 
-/// How the committed updates ended that were not withdrawn, in number order. It is refused only for want of memory.
+/// How the committed updates ended that were not withdrawn, in number order.
 pub(crate) fn finishes(alloc: Global, queue: &[QueuedUpdate]) -> Result<FinishList, Memory>
     requires from { AreFrom 1 queue.now }
     ensures told { IfOk result (AreFinishes queue.now) }

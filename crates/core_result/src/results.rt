@@ -15,7 +15,7 @@ use set_versions::Versions;
 use std::alloc::Global;
 
 /// How the committed updates ended, where the lowest that is not committed stops, and the repository that the committed ones
-/// left, by outer forms. It is refused only for want of memory.
+/// left, by outer forms.
 pub fn told(
     alloc: Global,
     queue: &[QueuedUpdate],

@@ -16,8 +16,7 @@ use chase_update::{Attempt, Lack, Stop};
 use core_queue::{QueuedUpdate, asked};
 use std::alloc::Global;
 
-/// Where the lowest update stops that is not committed, if there is one and something is lacking at its question. It is
-/// refused only for want of memory.
+/// Where the lowest update stops that is not committed, if there is one and something is lacking at its question.
 pub(crate) fn stop(alloc: Global, queue: &[QueuedUpdate]) -> Result<Option<Stop>, Memory>
     requires from { AreFrom 1 queue.now }
     ensures told { IfOk result (IsStop queue.now) }

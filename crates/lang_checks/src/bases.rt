@@ -34,7 +34,7 @@ impl Model for Base {
 }
 
 impl Base {
-    /// The empty set. It takes no memory.
+    /// The empty set.
     pub(crate) fn new(alloc: Global) -> Base
         ensures empty { result ≡ [] }
     {
@@ -55,7 +55,7 @@ impl Base {
         are_so_many(self.relations.as_slice(), most)
     }
 
-    /// Puts a tuple in, where it is not there yet. It is refused only for want of memory; the set is then unchanged.
+    /// Puts a tuple in, where it is not there yet. If it is refused, the set is unchanged.
     pub(crate) fn insert(&mut self, tuple: Tuple) -> Result<(), Memory>
         ensures ok { OnOk result (self.new ≡ change self.old (Insert (fact_of tuple))) }
         ensures err { OnErr result (self.new ≡ self.old) }
@@ -68,7 +68,7 @@ impl Base {
         Ok(())
     }
 
-    /// Whether the tuple is there. It is refused only for want of memory; the set stays as it is.
+    /// Whether the tuple is there. If it is refused, the set stays as it is.
     pub(crate) fn find(&mut self, tuple: &Tuple) -> Result<bool, Memory>
         ensures answer { IfOk result (λ there. there ≡ has self.old (fact_of tuple.now)) }
         ensures same { self.new ≡ self.old }
@@ -77,7 +77,7 @@ impl Base {
         Ok(there)
     }
 
-    /// The tuples in order, taken out of the set. It is refused only for want of memory.
+    /// The tuples in order, taken out of the set.
     pub(crate) fn into_list(self, alloc: Global) -> Result<TupleList, Memory>
         ensures tuples { IfOk result (λ list. map fact_of list.items ≡ self) }
     {

@@ -50,7 +50,7 @@ impl Model for Draft {
 }
 
 impl Draft {
-    /// What the header of a format leaves. It takes no memory.
+    /// What the header of a format leaves.
     pub fn new(alloc: Global, format: u8) -> Draft
         ensures empty { result ≡ empty_session format }
     {
@@ -63,14 +63,14 @@ impl Draft {
         }
     }
 
-    /// The format of the session. It takes no memory.
+    /// The format of the session.
     pub fn format(&self) -> u8
         ensures format { result ≡ self.now.format }
     {
         self.format
     }
 
-    /// The session. It is refused only for want of memory.
+    /// The session.
     pub fn into_session(self, alloc: Global) -> Result<Session, Memory>
         ensures same { IfOk result (λ session. session_of session ≡ self) }
     {

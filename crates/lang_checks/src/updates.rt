@@ -39,7 +39,7 @@ impl Model for Updates {
 }
 
 impl Updates {
-    /// No update. It takes no memory.
+    /// No update.
     pub(crate) fn new(alloc: Global) -> Updates
         ensures empty { result ≡ [] }
     {
@@ -93,8 +93,7 @@ impl Updates {
         self.answers
     }
 
-    /// Adds an update without answers at the end. It is refused only for want of memory; nothing has then
-    /// changed.
+    /// Adds an update without answers at the end. If it is refused, nothing has changed.
     pub(crate) fn add(&mut self, alloc: Global, update: Update) -> Result<(), Memory>
         requires fresh { is_one_of (labels self.old) update.label.items ≡ false }
         requires room { length self.old < 1000 }
@@ -122,8 +121,7 @@ impl Updates {
         Ok(())
     }
 
-    /// Adds an answer to the update at a place. It is refused only for want of memory; nothing has then
-    /// changed.
+    /// Adds an answer to the update at a place. If it is refused, nothing has changed.
     pub(crate) fn answer(&mut self, place: u32, choice: Choice) -> Result<(), Memory>
         requires there { place < length self.old }
         requires room { answer_count self.old < 20000 }
@@ -136,7 +134,7 @@ impl Updates {
         Ok(())
     }
 
-    /// The updates as a list. It takes no memory.
+    /// The updates as a list.
     pub(crate) fn into_list(self) -> SessionUpdates
         ensures same { map update_of result.items ≡ self }
     {
@@ -145,7 +143,7 @@ impl Updates {
     }
 }
 
-// Notes the label and the curator of the update. It is refused only for want of memory; nothing has then changed.
+// Notes the label and the curator of the update. If it is refused, nothing has changed.
 fn note(
     alloc: Global,
     labels: &mut Names,

@@ -38,8 +38,7 @@ pub fn null_of(spelling: &[u8]) -> (u32, u32)
     (update as u32, place as u32)
 }
 
-/// What the text that a token spells says: at most 256 bytes, without quotes and escapes. It is
-/// refused only for want of memory.
+/// What the text that a token spells says: at most 256 bytes, without quotes and escapes.
 pub fn text_of(alloc: Global, spelling: &[u8]) -> Result<Word, Memory>
     requires text { spells Text spelling.now ≡ true }
     ensures said { IfOk result (λ word. word.items ≡ text_of spelling.now) }

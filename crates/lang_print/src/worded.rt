@@ -15,7 +15,7 @@ use lang_schema::{Page, Schema};
 pub trait Worded {
     ghost words: { List RelationSchema → Self → List Word };
 
-    /// Adds the words. It is refused only for want of memory.
+    /// Adds the words.
     fn write(&self, page: Page, schema: &Schema) -> Result<Page, Memory>
         ensures written { IfOk result (λ p. p ≡ with_words page (words schema.now self.now)) };
 }
@@ -61,7 +61,7 @@ fn with_some<T: Worded>(
     with_others(page, schema, others)
 }
 
-/// Adds the words of each item, with commas between. It is refused only for want of memory.
+/// Adds the words of each item, with commas between.
 pub fn with_separated<T: Worded>(page: Page, schema: &Schema, items: &[T]) -> Result<Page, Memory>
     ensures words { IfOk result (λ p. p ≡
         with_words page (separated (T.words schema.now) items.now)) }

@@ -40,7 +40,7 @@ fn section_of(statement: &RawStatement) -> Section
 }
 
 impl Reader {
-    /// Before the header. It takes no memory.
+    /// Before the header.
     pub(crate) fn new(alloc: Global) -> Reader
         ensures begun { state_of result ≡ begun }
     {

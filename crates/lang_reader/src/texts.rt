@@ -156,8 +156,7 @@ fn push_kind(alloc: Global, out: &mut Vec<u8>, kind: &FaultKind) -> Result<(), A
     }
 }
 
-/// A fault as users are told it: `session line LINE: fault NUMBER: WORDS`. It is refused only for want
-/// of memory.
+/// A fault as users are told it: `session line LINE: fault NUMBER: WORDS`.
 pub fn fault_text(alloc: Global, fault: &SessionFault) -> Result<Vec<u8>, Memory>
     ensures text { IfOk result (λ text. text.items ≡ wrong_text (wrong_of fault.now)) }
 {

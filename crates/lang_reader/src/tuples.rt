@@ -37,8 +37,7 @@ fn fact_on(alloc: Global, line: &[u8]) -> Result<RawFact, LineRefusal>
     Ok(whole_fact(alloc, words)?)
 }
 
-/// The fact that a text spells, if it spells one. Blanks and a comment may stand around the fact; a line feed may stand
-/// nowhere. It is refused only for want of memory.
+/// The fact that a text spells, if it spells one. Blanks and a comment may stand around the fact; a line feed may stand nowhere.
 pub fn read_fact(alloc: Global, text: &[u8]) -> Result<Option<RawFact>, Memory>
     ensures some { IfOk result (λ found. IfSome found (λ fact.
         SpellsFact text.now (fact_meant fact))) }
@@ -67,8 +66,8 @@ fn tuple_of(alloc: Global, schema: &Schema, fact: RawFact) -> Result<Tuple, Line
     Ok(Tuple::new(alloc, relation, fact.values)?)
 }
 
-/// The tuple of a schema that a fact is; None exactly where the schema lacks its relation, or has it with another number
-/// of columns. A null may come from any update. It is refused only for want of memory.
+/// The tuple of a schema that a fact is; None exactly where the schema lacks its relation, or has it with another number of
+/// columns. A null may come from any update.
 pub fn tuple_in(alloc: Global, schema: &Schema, fact: &RawFact) -> Result<Option<Tuple>, Memory>
     ensures tuple { IfOk result
         (λ found. option_map tuple_meant found ≡
@@ -85,8 +84,8 @@ pub fn tuple_in(alloc: Global, schema: &Schema, fact: &RawFact) -> Result<Option
     }
 }
 
-/// Reads the text of a fact as a tuple of a schema. Blanks and a comment may stand around the fact; a
-/// line feed may stand nowhere. A null may come from any update. It is refused only for want of memory.
+/// Reads the text of a fact as a tuple of a schema. Blanks and a comment may stand around the fact; a line feed may stand
+/// nowhere. A null may come from any update.
 pub fn read_tuple(alloc: Global, schema: &Schema, text: &[u8]) -> Result<TupleText, Memory>
     ensures says { IfOk result (Says schema.now text.now) }
 {

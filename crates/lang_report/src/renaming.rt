@@ -116,7 +116,7 @@ fn base_fact(alloc: Global, nulls: &[Null], tuple: &Tuple) -> Result<Tuple, Memo
     Tuple::new(alloc, tuple.relation, values)
 }
 
-/// The tuples of a repository as those of a base. It is refused only for want of memory.
+/// The tuples of a repository as those of a base.
 pub(crate) fn saved_base(alloc: Global, tuples: &[Tuple]) -> Result<TupleList, Memory>
     ensures { IfOk result (λ base. map fact_of base.items ≡ saved_base (map fact_of tuples.now)) }
 {

@@ -27,9 +27,8 @@ fn with_title(page: Page) -> Result<Page, Memory>
         .end_line()
 }
 
-/// The result text of a session and of what is told of its run: each update that came to its end, the question at
-/// which the run stopped, if it did, the repository, and how many updates came to their ends. It is refused only for
-/// want of memory.
+/// The result text of a session and of what is told of its run: each update that came to its end, the question at which the run
+/// stopped, if it did, the repository, and how many updates came to their ends.
 pub fn result_text(
     alloc: Global,
     session: &Session,
@@ -48,7 +47,7 @@ pub fn result_text(
     Ok(whole.into_text())
 }
 
-/// The lines of a question alone. It is refused only for want of memory.
+/// The lines of a question alone.
 pub fn question_lines(
     alloc: Global,
     session: &Session,

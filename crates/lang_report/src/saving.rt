@@ -106,7 +106,7 @@ fn saved_mappings(
     Ok(kept)
 }
 
-// Makes the session the saved one, of any size. It is refused only for want of memory, and is then as it was.
+// Makes the session the saved one, of any size. If it is refused, it is as it was.
 fn begin_anew(alloc: Global, session: &mut Session, told: &SessionResult) -> Result<(), Memory>
     ensures anew { OnOk result (session_of session.new ≡
         saved (session_of session.old) (result_of told.now)) }

@@ -26,7 +26,7 @@ impl Model for Names {
 }
 
 impl Names {
-    /// No name. It takes no memory.
+    /// No name.
     pub fn new(alloc: Global) -> Names
         ensures empty { result.items ≡ [] }
     {
@@ -42,7 +42,7 @@ impl Names {
         self.names.len()
     }
 
-    /// The place of a name, counted from 0; None exactly where it is none of them. It takes no memory.
+    /// The place of a name, counted from 0; None exactly where it is none of them.
     pub fn find(&self, name: &Name) -> Option<usize>
         ensures place { result ≡ position (same_name name.now.items) self.now.items }
         ensures within { IfSome result (λ place. place < length self.now.items) }
@@ -50,14 +50,14 @@ impl Names {
         self.names.get_index_of(name.as_slice())
     }
 
-    /// Whether a name is one of them. It takes no memory.
+    /// Whether a name is one of them.
     pub fn has(&self, name: &Name) -> bool
         ensures one { result ≡ is_one_of self.now.items name.now.items }
     {
         self.find(name).is_some()
     }
 
-    /// Makes room for one more name. It is refused only for want of memory. The names stay as they are.
+    /// Makes room for one more name. The names stay as they are.
     pub fn reserve(&mut self) -> Result<(), Memory>
         ensures room { OnOk result (1 ≤ self.new.spare) }
         ensures same { self.new.items ≡ self.old.items }
@@ -77,7 +77,7 @@ impl Names {
         Ok(())
     }
 
-    /// The names in the order in which they came. It is refused only for want of memory.
+    /// The names in the order in which they came.
     pub fn list(&self, alloc: Global) -> Result<NameList, Memory>
         ensures same { IfOk result (λ names. map (λ n. n.items) names.items ≡ self.now.items) }
     {

@@ -43,7 +43,7 @@ fn push_space(out: &mut Vec<u8>, apart: bool) -> Result<(), AllocError>
 }
 
 impl Page {
-    /// The page with nothing on it. It takes no memory.
+    /// The page with nothing on it.
     pub fn new(alloc: Global) -> Page
         ensures blank { result ≡ blank }
     {
@@ -53,7 +53,7 @@ impl Page {
         }
     }
 
-    /// Makes room for so many bytes more. It is refused only for want of memory. What is on the page stays.
+    /// Makes room for so many bytes more. What is on the page stays.
     pub fn reserve(&mut self, more: usize) -> Result<(), Memory>
         ensures same { self.new ≡ self.old }
     {
@@ -201,7 +201,7 @@ impl Page {
         Ok(self)
     }
 
-    /// The text. It takes no memory.
+    /// The text.
     pub fn into_text(self) -> Vec<u8>
         ensures text { result.items ≡ self.text }
     {

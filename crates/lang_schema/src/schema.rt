@@ -42,7 +42,7 @@ fn is_arity(arity: u16) -> bool
 }
 
 impl Schema {
-    /// The schema without relations. It takes no memory.
+    /// The schema without relations.
     pub fn new(alloc: Global) -> Schema
         ensures empty { result ≡ [] }
     {
@@ -51,15 +51,14 @@ impl Schema {
         }
     }
 
-    /// How many relations there are. It takes no memory.
+    /// How many relations there are.
     pub fn len(&self) -> u16
         ensures length { result ≡ length self.now }
     {
         self.relations.len() as u16
     }
 
-    /// The number of the relation of a name; None exactly where there is none. It takes no memory, and
-    /// looks the name up by its hash.
+    /// The number of the relation of a name; None exactly where there is none. It looks the name up by its hash.
     pub fn find(&self, name: &Name) -> Option<u16>
         ensures place { result ≡ position (same_name name.now.items) (relation_names self.now) }
     {
@@ -80,7 +79,7 @@ impl Schema {
         }
     }
 
-    /// The name of a relation; nothing where no relation has the number. It takes no memory.
+    /// The name of a relation; nothing where no relation has the number.
     pub fn name(&self, relation: u16) -> &[u8]
         ensures name { result.now ≡ name_of (relation_names self.now) relation }
     {

@@ -126,7 +126,7 @@ impl Variables {
     {
         self.names.list(alloc)
     }
-    /// The names. It takes no memory.
+    /// The names.
     pub(crate) fn into_names(self) -> Names
         ensures { result.items ≡ self }
     {

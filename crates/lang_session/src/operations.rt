@@ -20,9 +20,8 @@ fn fits_tuple(schema: &Schema, before: u32, tuple: &Tuple) -> bool
     fits_values(before, tuple.values.as_slice())
 }
 
-/// Whether an operation may be admitted behind so many updates: it fits the relations, its words are at most 256 bytes of
-/// UTF-8, its nulls are named by their outer forms and come from those updates, and it puts no mapping in force. It takes
-/// no memory.
+/// Whether an operation may be admitted behind so many updates: it fits the relations, its words are at most 256 bytes of UTF-8,
+/// its nulls are named by their outer forms and come from those updates, and it puts no mapping in force.
 pub fn admits(schema: &Schema, before: u32, operation: &Operation) -> bool
     ensures admits { result ≡ admits schema.now before (operation_of operation.now) }
 {

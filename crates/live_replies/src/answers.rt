@@ -17,7 +17,7 @@ use lang_forms::RawChoice;
 use std::alloc::Global;
 
 impl<'s> Conversation<'s> {
-    /// Answers the question of the update with the label. It is refused only for want of memory.
+    /// Answers the question of the update with the label.
     pub(crate) fn answer(
         &mut self,
         alloc: Global,
@@ -67,7 +67,7 @@ impl<'s> Conversation<'s> {
         }
     }
 
-    /// Withdraws the update with the label. It is refused only for want of memory.
+    /// Withdraws the update with the label.
     pub(crate) fn withdraw(&mut self, alloc: Global, label: &Name) -> Result<Vec<u8>, Memory>
         ensures { IfOk result (λ text. IsTold (command_turn (live_of self.old)
             (AskWithdrawal label.now.items)) text.items (live_of self.new)) }

@@ -116,7 +116,7 @@ fn said_by(alloc: Global, words: Words<'_>) -> Result<Said, Memory>
     }
 }
 
-/// What a line says. It is refused only for want of memory.
+/// What a line says.
 pub(crate) fn line_said(alloc: Global, line: &[u8]) -> Result<Said, Memory>
     ensures said { IfOk result (λ said. said_meant said ≡ line_says line.now) }
 {

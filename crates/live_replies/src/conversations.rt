@@ -41,7 +41,7 @@ pub struct Reply {
     pub last: bool,
 }
 
-// The labels of the updates, each once, in order. It is refused only for want of memory.
+// The labels of the updates, each once, in order.
 fn labels_of(alloc: Global, updates: &[SessionUpdate]) -> Result<Names, Memory>
     ensures { IfOk result (λ names. names.items ≡
         firsts same_name (labels (map update_of updates.now))) }
@@ -63,7 +63,7 @@ fn bye(alloc: Global) -> Result<Reply, Memory>
 }
 
 impl<'s> Conversation<'s> {
-    /// The session before the first line: all its updates are admitted. It is refused only for want of memory.
+    /// The session before the first line: all its updates are admitted.
     pub fn open(
         alloc: Global,
         session: &'s Session,
@@ -84,14 +84,14 @@ impl<'s> Conversation<'s> {
         })
     }
 
-    /// How many updates there are. It takes no memory.
+    /// How many updates there are.
     pub fn count(&self) -> u32
         ensures count { result ≡ length (updates_at self.now.core) }
     {
         self.core.count()
     }
 
-    /// What the line says is done, and replied. It is refused only for want of memory; what was done then stays.
+    /// What the line says is done, and replied. If it is refused, what was done stays.
     #[tactic(auto, unfolding(crate::specs::Turns::line_turn))]
     pub fn turn(&mut self, alloc: Global, line: &[u8]) -> Result<Reply, Memory>
         ensures turn { IfOk result (IsReplyTo (live_of self.old) line.now (live_of self.new)) }
@@ -197,7 +197,7 @@ impl<'s> Conversation<'s> {
         }
     }
 
-    /// The number of the update with the label; None exactly where none has it. It takes no memory.
+    /// The number of the update with the label; None exactly where none has it.
     pub(crate) fn number(&self, label: &Name) -> Option<u32>
         ensures number { result ≡ number_of (live_of self.now) label.now.items }
     {
@@ -207,7 +207,7 @@ impl<'s> Conversation<'s> {
         }
     }
 
-    /// The line of the last event. It is refused only for want of memory.
+    /// The line of the last event.
     #[tactic(auto, using(crate::proofs::Listing::last_told))]
     pub(crate) fn told(&self, alloc: Global) -> Result<Vec<u8>, Memory>
         ensures told { IfOk result (λ text. text.items ≡

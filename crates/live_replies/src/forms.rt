@@ -20,7 +20,7 @@ pub(crate) fn alone(rest: Words<'_>, command: Command) -> Said
     }
 }
 
-/// A withdrawal, behind its word. It is refused only for want of memory.
+/// A withdrawal, behind its word.
 pub(crate) fn withdrawal_at(alloc: Global, rest: Words<'_>) -> Result<Said, Memory>
     ensures { IfOk result (λ said. said_meant said ≡
         labelled (name_at (words_of rest.entry)) AskWithdrawal) }
@@ -32,7 +32,7 @@ pub(crate) fn withdrawal_at(alloc: Global, rest: Words<'_>) -> Result<Said, Memo
     }
 }
 
-/// The wish to be told a question, behind its word. It is refused only for want of memory.
+/// The wish to be told a question, behind its word.
 pub(crate) fn question_at(alloc: Global, rest: Words<'_>) -> Result<Said, Memory>
     ensures { IfOk result (λ said. said_meant said ≡
         labelled (name_at (words_of rest.entry)) AskQuestion) }

@@ -12,8 +12,7 @@ use lang_reader::tuple_in;
 use lang_schema::Schema;
 use std::alloc::Global;
 
-/// The operation; None where a fact's relation is not known or has another number of columns. It is refused only for want
-/// of memory.
+/// The operation; None where a fact's relation is not known or has another number of columns.
 pub(crate) fn known_operation(
     alloc: Global,
     schema: &Schema,
@@ -55,8 +54,7 @@ fn known_facts(
     Ok(Some(tuples))
 }
 
-/// The choice; None where a fact's relation is not known or has another number of columns. It is refused only for want of
-/// memory.
+/// The choice; None where a fact's relation is not known or has another number of columns.
 pub(crate) fn known_choice(
     alloc: Global,
     schema: &Schema,

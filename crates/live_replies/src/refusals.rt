@@ -60,7 +60,7 @@ fn refusal_word(refusal: Refusal) -> &'static [u8]
     }
 }
 
-/// The reply to a command that is refused. It is refused only for want of memory.
+/// The reply to a command that is refused.
 pub(crate) fn refused(alloc: Global, refusal: Refusal) -> Result<Vec<u8>, Memory>
     ensures { IfOk result (λ text. text.items ≡ refused_line (refusal_meant refusal)) }
 {
@@ -70,7 +70,7 @@ pub(crate) fn refused(alloc: Global, refusal: Refusal) -> Result<Vec<u8>, Memory
     Ok(text)
 }
 
-/// A reply of these words. It is refused only for want of memory.
+/// A reply of these words.
 pub(crate) fn words(alloc: Global, words: &[u8]) -> Result<Vec<u8>, Memory>
     ensures { IfOk result (λ text. text.items ≡ words.now) }
 {

@@ -18,8 +18,7 @@ use lang_forms::RawOperation;
 use std::alloc::Global;
 
 impl<'s> Conversation<'s> {
-    /// Admits an update, where its label is new, its relation is known, there is room and it names nulls of lower updates
-    /// alone. It is refused only for want of memory.
+    /// Admits an update, where its label is new, its relation is known, there is room and it names nulls of lower updates alone.
     pub(crate) fn update(
         &mut self,
         alloc: Global,

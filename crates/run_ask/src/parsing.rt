@@ -148,9 +148,9 @@ fn read_ask(alloc: Global, words: Words<'_>) -> Result<Option<RawAsk>, Memory>
     }
 }
 
-/// The query that a text spells: the names of its head, and the atoms of its body; None exactly where the text spells
-/// none. Blanks and a comment may stand around the query, and no line feed anywhere. A query has 1 to 8 atoms, and 1 to 8
-/// names in its head, each of them a variable of the body. It is refused only for want of memory.
+/// The query that a text spells: the names of its head, and the atoms of its body; None exactly where the text spells none.
+/// Blanks and a comment may stand around the query, and no line feed anywhere. A query has 1 to 8 atoms, and 1 to 8 names in its
+/// head, each of them a variable of the body.
 pub fn parse_ask(alloc: Global, text: &[u8]) -> Result<Option<RawAsk>, Memory>
     ensures some { IfOk result
         (λ found. IfSome found (λ raw. SpellsAsk text.now (written_of raw))) }

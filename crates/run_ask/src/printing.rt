@@ -29,8 +29,7 @@ fn push_rows(out: &mut Vec<u8>, rows: &[Row]) -> Result<(), AllocError>
     Ok(())
 }
 
-/// The text that tells answers: a line that says that they follow, and then each row on a line of its own. It is refused
-/// only for want of memory.
+/// The text that tells answers: a line that says that they follow, and then each row on a line of its own.
 pub fn answers_text(alloc: Global, rows: &RowList) -> Result<Vec<u8>, Memory>
     ensures text { IfOk result (λ text. text.items ≡ answers_text (rows_of rows.now)) }
 {

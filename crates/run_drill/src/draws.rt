@@ -14,7 +14,7 @@ fn next(state: u64) -> u64
     (moved % 18_446_744_073_709_551_616) as u64
 }
 
-/// Draws a number below `most`, and moves the state on. It takes no memory.
+/// Draws a number below `most`, and moves the state on.
 pub fn draw(state: &mut u64, most: u32) -> u32
     requires some { 0 < most }
     ensures number { result ≡ drawn_def most (next_def state.old) }

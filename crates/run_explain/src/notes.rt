@@ -10,7 +10,7 @@ use run_note::Note;
 /// Notes of steps, in the order in which they were made.
 pub type NoteList = List<Note>;
 
-/// Adds the note, unless nothing was put. It is refused only for want of memory.
+/// Adds the note, unless nothing was put.
 pub(crate) fn add(notes: &mut NoteList, note: Note) -> Result<(), Memory>
     ensures added { OnOk result (notes_in notes.new ≡
         notes_in notes.old ++ unless_none (note_of note).puts (note_of note)) }
@@ -22,7 +22,7 @@ pub(crate) fn add(notes: &mut NoteList, note: Note) -> Result<(), Memory>
     Ok(())
 }
 
-/// Adds the notes. It is refused only for want of memory.
+/// Adds the notes.
 pub(crate) fn add_all(notes: &mut NoteList, more: NoteList) -> Result<(), Memory>
     ensures added { OnOk result (notes_in notes.new ≡ notes_in notes.old ++ notes_in more) }
 {

@@ -11,8 +11,7 @@ use chase_unifier::apply;
 use run_note::Rewriting;
 use std::alloc::Global;
 
-/// The first of the tuples that the substitution takes to this one; this one itself where none does. It is refused only
-/// for want of memory.
+/// The first of the tuples that the substitution takes to this one; this one itself where none does.
 pub(crate) fn source(
     alloc: Global,
     rewriting: &Rewriting,

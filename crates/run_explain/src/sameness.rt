@@ -4,7 +4,7 @@ ghost use Rattle.run_explain.specs.ReasonMeanings.{reasons_in};
 
 use crate::reasons::Explanation;
 
-/// Whether these are the same reasons in the same order. It takes no memory.
+/// Whether these are the same reasons in the same order.
 pub fn same_reasons(told: &Explanation, given: &Explanation) -> bool
     ensures same { IsTrue result ↔ (reasons_in told.now ≡ reasons_in given.now) }
 {

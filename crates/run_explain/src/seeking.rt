@@ -11,8 +11,8 @@ use base_types::{Memory, TryCopy, Tuple, TupleList};
 use set_facts::PlainFacts;
 use std::alloc::Global;
 
-/// Takes these tuples out of what is sought, and gives those that were there, in order. It is refused only for want of
-/// memory; some of them may then be taken out.
+/// Takes these tuples out of what is sought, and gives those that were there, in order. If it is refused, some of them may be
+/// taken out.
 pub(crate) fn take_out(
     alloc: Global,
     sought: &mut PlainFacts,
@@ -45,7 +45,7 @@ fn take_one(sought: &mut PlainFacts, taken: &mut PlainFacts, tuple: Tuple) -> Re
     Ok(())
 }
 
-/// Seeks also what this rests on. It is refused only for want of memory; some of it may then be sought.
+/// Seeks also what this rests on. If it is refused, some of it may be sought.
 pub(crate) fn seek(alloc: Global, sought: &mut PlainFacts, how: &How) -> Result<(), Memory>
     ensures sought { OnOk result (sought.new ≡
         apply sought.old (map Insert (premises (how_of how.now)))) }

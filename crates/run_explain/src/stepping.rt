@@ -17,9 +17,9 @@ use run_note::noted;
 use set_facts::IndexedFacts;
 use std::alloc::Global;
 
-/// One step of the program over the repository that the view is of, with the answer where it is at a question; what it
-/// puts is noted. The view is of these mappings and in the program's direction. It sees the program's own writes, and then
-/// also those of the step. It is refused only for want of memory; the program may then be within the step.
+/// One step of the program over the repository that the view is of, with the answer where it is at a question; what it puts is
+/// noted. The view is of these mappings and in the program's direction. It sees the program's own writes, and then also those of
+/// the step. If it is refused, the program may be within the step.
 pub(crate) fn step(
     alloc: Global,
     program: &mut Attempt,

@@ -17,7 +17,7 @@ use run_note::{Note, Way};
 use set_facts::PlainFacts;
 use std::alloc::Global;
 
-/// The reasons for a tuple by these notes. It is refused only for want of memory.
+/// The reasons for a tuple by these notes.
 pub fn told_by(alloc: Global, notes: NoteList, tuple: Tuple) -> Result<Explanation, Memory>
     ensures told { IfOk result (λ reasons. reasons_in reasons ≡
         told_by_def (reverse (notes_in notes)) (fact_of tuple ∷ [])) }

@@ -15,7 +15,7 @@ use lang_schema::{Schema, print_tuple};
 use lang_session::Session;
 use std::alloc::Global;
 
-/// The text of an explanation: a line for each reason, facts by their outer names. It is refused only for want of memory.
+/// The text of an explanation: a line for each reason, facts by their outer names.
 pub fn explanation_text(
     alloc: Global,
     session: &Session,

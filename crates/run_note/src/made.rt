@@ -22,9 +22,8 @@ use set_facts::IndexedFacts;
 use std::alloc::Global;
 
 /// Makes one step of the program over the repository that the view is of, with the answer where it is at a question, and gives
-/// its note, whether it puts a tuple or not. The view is of these mappings and in the program's direction. It sees the
-/// program's own writes, and then also those of the step. It is refused only for want of memory; the program may then be
-/// within the step.
+/// its note, whether it puts a tuple or not. The view is of these mappings and in the program's direction. It sees the program's
+/// own writes, and then also those of the step. If it is refused, the program may be within the step.
 pub fn noted(
     alloc: Global,
     program: &mut Attempt,

@@ -25,8 +25,7 @@ use chase_update::{Attempt, standing_for};
 use set_facts::IndexedFacts;
 use std::alloc::Global;
 
-/// The way of the program's next step over what is seen in the view, with the answer where it is at a question. It is
-/// refused only for want of memory.
+/// The way of the program's next step over what is seen in the view, with the answer where it is at a question.
 pub(crate) fn way(
     alloc: Global,
     program: &Attempt,

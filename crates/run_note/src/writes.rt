@@ -14,7 +14,7 @@ use chase_query::{Query, Reply};
 use set_facts::IndexedFacts;
 use std::alloc::Global;
 
-/// The own writes behind the first so many. It takes no memory.
+/// The own writes behind the first so many.
 pub(crate) fn latest(own: &WriteList, seen: usize) -> &[Write]
     requires some { seen ≤ length own.now.items }
     ensures latest { map change_of result.now ≡ drop seen (changes_of own.now) }
@@ -22,7 +22,7 @@ pub(crate) fn latest(own: &WriteList, seen: usize) -> &[Write]
     &own.as_slice()[seen..]
 }
 
-/// The tuples that the writes insert and that are not seen in the view. It is refused only for want of memory.
+/// The tuples that the writes insert and that are not seen in the view.
 pub(crate) fn absent(
     alloc: Global,
     view: &mut WatchedView<'_, IndexedFacts>,
@@ -35,7 +35,7 @@ pub(crate) fn absent(
     those(alloc, view, inserted(alloc, writes)?, false)
 }
 
-/// Those of the tuples that are seen in the view. It is refused only for want of memory.
+/// Those of the tuples that are seen in the view.
 pub(crate) fn present(
     alloc: Global,
     view: &mut WatchedView<'_, IndexedFacts>,
@@ -120,7 +120,7 @@ fn inserted(alloc: Global, writes: &[Write]) -> Result<TupleList, Memory>
     Ok(tuples)
 }
 
-/// The tuples that the writes delete, in turn. It is refused only for want of memory.
+/// The tuples that the writes delete, in turn.
 pub(crate) fn deleted(alloc: Global, writes: &[Write]) -> Result<TupleList, Memory>
     ensures deleted { IfOk result
         (λ tuples. facts_of tuples ≡ deleted_def (map change_of writes.now)) }

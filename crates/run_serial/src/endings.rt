@@ -14,7 +14,7 @@ use chase_update::{Attempt, Finish, FinishList, Lack, Stop, Want};
 use set_facts::IndexedFacts;
 use std::alloc::Global;
 
-/// What is told of an update that has ended. It takes no memory.
+/// What is told of an update that has ended.
 pub(crate) fn finish(program: &Attempt) -> Finish
     requires between { program.now.reading ≡ None }
     requires ended { is_some (outcome_in program.now.attempt.phase) ≡ true }
@@ -33,8 +33,7 @@ pub(crate) fn finish(program: &Attempt) -> Finish
     }
 }
 
-/// What is told of the update of this number, which stops at a question for what is lacking and is given up. It is refused
-/// only for want of memory.
+/// What is told of the update of this number, which stops at a question for what is lacking and is given up.
 pub fn stop(alloc: Global, program: Attempt, number: u32, lack: Lack) -> Result<Stop, Memory>
     requires between { program.reading ≡ None }
     requires asked { is_some (question_in program.attempt.phase) ≡ true }
@@ -68,8 +67,8 @@ fn stop_at(alloc: Global, program: &Attempt, number: u32, lack: Lack) -> Result<
     }
 }
 
-/// Tells the finish of an update that has ended, and keeps its writes. It is refused only for want of memory; the finishes are
-/// then unchanged, and some of the writes, the first ones, may have been made.
+/// Tells the finish of an update that has ended, and keeps its writes. If it is refused, the finishes are unchanged, and some of
+/// the writes, the first ones, may have been made.
 pub fn end(
     alloc: Global,
     finishes: &mut FinishList,

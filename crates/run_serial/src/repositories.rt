@@ -11,8 +11,8 @@ use chase_update::Outcome;
 use set_facts::IndexedFacts;
 use std::alloc::Global;
 
-/// Makes the writes of an update that has ended so: where it is done those that it made, and else none. It is refused
-/// only for want of memory; some of them, the first ones, may then have been made.
+/// Makes the writes of an update that has ended so: where it is done those that it made, and else none. If it is refused, some of
+/// them, the first ones, may have been made.
 pub(crate) fn keep(
     facts: &mut IndexedFacts,
     writes: WriteList,
@@ -54,8 +54,7 @@ fn make_one(facts: &mut IndexedFacts, write: Write) -> Result<(), Memory>
     Ok(())
 }
 
-/// The tuples of the repository in order, without those that say which mappings are in force. It is refused only for
-/// want of memory.
+/// The tuples of the repository in order, without those that say which mappings are in force.
 pub fn told(alloc: Global, facts: IndexedFacts) -> Result<TupleList, Memory>
     ensures told { IfOk result (λ tuples. facts_of tuples ≡ answered facts) }
 {

@@ -21,7 +21,7 @@ use lang_session::{Session, SessionUpdate, base_holds, sessions_suit_the_chase};
 use set_facts::{IndexedFacts, PlainFacts};
 use std::alloc::Global;
 
-/// The base of a session as the set of tuples that its run begins with. It is refused only for want of memory.
+/// The base of a session as the set of tuples that its run begins with.
 pub fn base_of(alloc: Global, session: &Session) -> Result<IndexedFacts, Memory>
     requires sorted { IsRepository (session_of session.now).base }
     ensures same { IfOk result (λ base. base ≡ (session_of session.now).base) }
@@ -30,7 +30,7 @@ pub fn base_of(alloc: Global, session: &Session) -> Result<IndexedFacts, Memory>
     Ok(IndexedFacts::of(alloc, base)?)
 }
 
-/// The mappings of a session, which is valid and so within the limits. It takes no memory.
+/// The mappings of a session, which is valid and so within the limits.
 pub fn mappings_of(session: &Session) -> Mappings<'_>
     requires valid { IsSession (session_of session.now) }
     ensures rules { result ≡ rules_of (session_of session.now).mappings }

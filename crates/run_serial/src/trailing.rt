@@ -123,7 +123,7 @@ fn turn(
     }
 }
 
-// Adds the trail of an update that has ended, and makes its writes. It is refused only for want of memory.
+// Adds the trail of an update that has ended, and makes its writes.
 fn end(
     alloc: Global,
     trails: &mut TrailList,

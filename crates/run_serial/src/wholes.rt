@@ -23,7 +23,7 @@ pub(crate) struct Rest {
     pub lack: Option<Lack>,
 }
 
-/// The update of this number taken whole over the repository, by attempt 0. It is refused only for want of memory.
+/// The update of this number taken whole over the repository, by attempt 0.
 pub(crate) fn take_whole(
     alloc: Global,
     number: u32,

@@ -16,9 +16,9 @@ use chase_update::{Attempt, Want};
 use set_facts::IndexedFacts;
 use std::alloc::Global;
 
-/// One step of the program over the repository that the view is of, with the answer where it is at a question. The view
-/// is of these mappings and in the program's direction. It sees the program's own writes, and then also those of the
-/// step. It is refused only for want of memory; the program may then be within the step.
+/// One step of the program over the repository that the view is of, with the answer where it is at a question. The view is of
+/// these mappings and in the program's direction. It sees the program's own writes, and then also those of the step. If it is
+/// refused, the program may be within the step.
 pub fn step(
     alloc: Global,
     program: &mut Attempt,
@@ -42,8 +42,8 @@ pub fn step(
     see_all(alloc, view, program.own(), seen)
 }
 
-/// Makes the step. The view sees the own writes from before it still; `see_all` shows it those of the step. It is refused
-/// only for want of memory; the program may then be within the step.
+/// Makes the step. The view sees the own writes from before it still; `see_all` shows it those of the step. If it is refused, the
+/// program may be within the step.
 pub fn make(
     alloc: Global,
     program: &mut Attempt,
@@ -66,8 +66,7 @@ pub fn make(
     answer_all(alloc, program, view, mappings)
 }
 
-/// Lets the view see all of the own writes, of which it has seen so many. It is refused only for want of memory; the view
-/// may then see some of the others.
+/// Lets the view see all of the own writes, of which it has seen so many. If it is refused, the view may see some of the others.
 pub fn see_all(
     alloc: Global,
     view: &mut WatchedView<'_, IndexedFacts>,

@@ -20,7 +20,7 @@ pub enum Next<'a> {
     Rest(Option<Lack>),
 }
 
-/// What comes next, where these are all answers. It takes no memory.
+/// What comes next, where these are all answers.
 pub fn what_next<'a>(program: &Attempt, answers: &'a ChoiceList) -> Next<'a>
     ensures next { next_of result ≡ next_by (wish program.now) program.now.attempt.taken
         (choices_of answers.now) }

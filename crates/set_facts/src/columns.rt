@@ -29,8 +29,8 @@ pub fn group<'a>(columns: &'a Vec<Groups>, column: usize, value: &Value) -> Opti
     }
 }
 
-/// Keeps a copy of the tuple in each of its columns, at its value there. It is refused only for want of memory; some of
-/// its columns may then keep it, and what else is kept is as before.
+/// Keeps a copy of the tuple in each of its columns, at its value there. If it is refused, some of its columns may keep it, and
+/// what else is kept is as before.
 pub fn index(columns: &mut Vec<Groups>, alloc: Global, tuple: &Tuple) -> Result<(), Memory>
     ensures ok { OnOk result (AddsAll (fact_of tuple.now) columns.old.items columns.new.items) }
     ensures err { OnErr result
@@ -43,7 +43,7 @@ pub fn index(columns: &mut Vec<Groups>, alloc: Global, tuple: &Tuple) -> Result<
     Ok(())
 }
 
-/// Takes the tuple, and no other, out of each of its columns. It takes no memory.
+/// Takes the tuple, and no other, out of each of its columns.
 pub fn sweep(columns: &mut Vec<Groups>, tuple: &Tuple)
     ensures dropped { DropsAll (fact_of tuple.now) columns.old.items columns.new.items }
 {
@@ -53,8 +53,7 @@ pub fn sweep(columns: &mut Vec<Groups>, tuple: &Tuple)
     }
 }
 
-// Keeps a copy of the tuple in this column, at the value. It is refused only for want of memory; the columns then keep
-// what they kept.
+// Keeps a copy of the tuple in this column, at the value. If it is refused, the columns keep what they kept.
 fn add_at(
     columns: &mut Vec<Groups>,
     alloc: Global,

@@ -13,7 +13,7 @@ use base_types::{Facts, Tuple, Value};
 pub trait Hides {
     ghost hidden: { Self → List Fact };
 
-    /// Whether the tuple is hidden. It takes no memory.
+    /// Whether the tuple is hidden.
     fn hides(&self, tuple: &Tuple) -> bool
         ensures answer { result ≡ has (hidden self.now) (fact_of tuple.now) };
 }
@@ -28,7 +28,7 @@ pub enum Course<'v> {
     Holding(u32, u32),
 }
 
-/// The first tuple from the cursor on that is not hidden. It takes no memory.
+/// The first tuple from the cursor on that is not hidden.
 pub fn remaining<'a, F: Facts, H: Hides>(
     facts: &'a F,
     hidden: &H,

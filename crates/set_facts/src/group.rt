@@ -46,7 +46,7 @@ impl Model for Group {
 }
 
 impl Group {
-    /// The empty set. It takes no memory.
+    /// The empty set.
     pub fn new(alloc: Global) -> Group
         ensures empty { result ≡ [] }
     {
@@ -66,8 +66,7 @@ impl Group {
         }
     }
 
-    /// Puts a tuple in, and tells whether it is new. It is refused only for want of memory; it then hands the tuple
-    /// back, and the set is unchanged.
+    /// Puts a tuple in, and tells whether it is new. If it is refused, it hands the tuple back, and the set is unchanged.
     pub fn insert(&mut self, tuple: Tuple) -> Result<bool, (Tuple, Memory)>
         ensures changed { IfOk result (λ changed. changed ≡ not (has self.old (fact_of tuple))) }
         ensures ok { OnOk result (self.new ≡ change self.old (Insert (fact_of tuple))) }
@@ -102,7 +101,7 @@ impl Group {
         Ok(added)
     }
 
-    /// Takes a tuple away, and tells whether it was there. It takes no memory.
+    /// Takes a tuple away, and tells whether it was there.
     pub fn remove(&mut self, tuple: &Tuple) -> bool
         ensures changed { result ≡ has self.old (fact_of tuple.now) }
         ensures after { self.new ≡ change self.old (Delete (fact_of tuple.now)) }

@@ -50,7 +50,7 @@ impl Model for IndexedFacts {
 }
 
 impl IndexedFacts {
-    /// The empty set. It takes no memory.
+    /// The empty set.
     pub fn new(alloc: Global) -> IndexedFacts
         ensures empty { result ≡ [] }
     {
@@ -62,7 +62,7 @@ impl IndexedFacts {
         }
     }
 
-    /// The same set, with an index. It is refused only for want of memory; it then hands the set back.
+    /// The same set, with an index. If it is refused, it hands the set back.
     pub fn of(alloc: Global, facts: PlainFacts) -> Result<IndexedFacts, (PlainFacts, Memory)>
         ensures same { IfOk result (λ indexed. indexed ≡ facts) }
         ensures given_back { IfErr result (λ refused. refused.0 ≡ facts) }
@@ -87,8 +87,7 @@ impl IndexedFacts {
         self.all.len()
     }
 
-    /// Puts a tuple in, and tells whether it is new. It is refused only for want of memory; it then hands the tuple
-    /// back, and the set is unchanged.
+    /// Puts a tuple in, and tells whether it is new. If it is refused, it hands the tuple back, and the set is unchanged.
     pub fn insert(&mut self, tuple: Tuple) -> Result<bool, (Tuple, Memory)>
         ensures changed { IfOk result (λ changed. changed ≡ not (has self.old (fact_of tuple))) }
         ensures ok { OnOk result (self.new ≡ change self.old (Insert (fact_of tuple))) }
@@ -116,7 +115,7 @@ impl IndexedFacts {
         }
     }
 
-    /// Takes a tuple away, and tells whether it was there. It takes no memory.
+    /// Takes a tuple away, and tells whether it was there.
     pub fn remove(&mut self, tuple: &Tuple) -> bool
         ensures changed { result ≡ has self.old (fact_of tuple.now) }
         ensures after { self.new ≡ change self.old (Delete (fact_of tuple.now)) }
@@ -126,7 +125,7 @@ impl IndexedFacts {
         there
     }
 
-    /// The tuples in order, taken out of the set. It is refused only for want of memory.
+    /// The tuples in order, taken out of the set.
     pub fn into_list(self, alloc: Global) -> Result<TupleList, Memory>
         ensures tuples { IfOk result (λ list. map fact_of list.items ≡ self) }
     {
@@ -134,7 +133,7 @@ impl IndexedFacts {
         all.into_list(alloc)
     }
 
-    /// The tuples in order, as a run. It takes no memory.
+    /// The tuples in order, as a run.
     pub fn run(&self) -> Run<'_>
         ensures all { run_of result ≡ self.now }
         ensures in_order { IsRepository self.now }
@@ -142,7 +141,7 @@ impl IndexedFacts {
         Run::Together(self.all.range(None))
     }
 
-    /// The tuples that are above a tuple and below another one, in order. It takes no memory.
+    /// The tuples that are above a tuple and below another one, in order.
     pub fn inside(&self, past: &Tuple, end: &Tuple) -> Range<'_, Tuple>
         requires forward { is_beyond (Some (fact_of past.now)) (fact_of end.now) ≡ true }
         ensures tuples { map fact_of result ≡
@@ -152,7 +151,7 @@ impl IndexedFacts {
         self.all.inside(past, end)
     }
 
-    /// The tuples in order. It is refused only for want of memory.
+    /// The tuples in order.
     pub fn list(&self, alloc: Global) -> Result<TupleList, Memory>
         ensures tuples { IfOk result (λ list. map fact_of list.items ≡ self.now) }
     {
@@ -261,8 +260,8 @@ fn index_all(alloc: Global, facts: &PlainFacts) -> Result<Vec<Columns>, Memory>
     Ok(relations)
 }
 
-// Keeps a copy of the tuple in the columns of its relation and at its nulls. It is refused only for want of memory; it may then be
-// kept at some of them, and what else is kept is as before.
+// Keeps a copy of the tuple in the columns of its relation and at its nulls. If it is refused, it may be kept at some of them,
+// and what else is kept is as before.
 fn keep_both(
     relations: &mut Vec<Columns>,
     by_null: &mut Groups,
@@ -282,7 +281,7 @@ fn keep_both(
     keep_nulls(by_null, alloc, tuple)
 }
 
-// Takes the tuple, and no other, out of the columns of its relation and away from its nulls. It takes no memory.
+// Takes the tuple, and no other, out of the columns of its relation and away from its nulls.
 fn drop_both(relations: &mut Vec<Columns>, by_null: &mut Groups, tuple: &Tuple)
     ensures columns { DropsOne (fact_of tuple.now) relations.old.items relations.new.items }
     ensures nulls { DropsHolder (λ u k. holds_null u k (fact_of tuple.now))
@@ -292,7 +291,7 @@ fn drop_both(relations: &mut Vec<Columns>, by_null: &mut Groups, tuple: &Tuple)
     drop_nulls(by_null, tuple);
 }
 
-// Makes the indexes those of all tuples again, where at most this one was added to them. It takes no memory.
+// Makes the indexes those of all tuples again, where at most this one was added to them.
 fn take_back(relations: &mut Vec<Columns>, by_null: &mut Groups, all: &PlainFacts, tuple: &Tuple)
     requires { IsIndexBut all.now (fact_of tuple.now) relations.old.items ×
         IsNullIndexBut all.now (fact_of tuple.now) by_null.old }

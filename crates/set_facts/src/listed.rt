@@ -52,7 +52,7 @@ impl Model for ListedFacts {
 }
 
 impl ListedFacts {
-    /// The empty set. It takes no memory.
+    /// The empty set.
     pub(crate) fn new(alloc: Global) -> ListedFacts
         ensures empty { result ≡ [] }
     {
@@ -90,7 +90,7 @@ impl ListedFacts {
         ahead(self.tuples.as_slice(), relation, past)
     }
 
-    /// The tuples as a list. It is refused only for want of memory.
+    /// The tuples as a list.
     pub(crate) fn list(&self, alloc: Global) -> Result<TupleList, Memory>
         ensures tuples { IfOk result (λ list. map fact_of list.items ≡ self.now) }
         ensures in_order { IsRepository self.now }
@@ -103,7 +103,7 @@ impl ListedFacts {
         Ok(list)
     }
 
-    /// The tuples as a list, taken out of the set. It takes no memory.
+    /// The tuples as a list, taken out of the set.
     pub(crate) fn into_list(self) -> TupleList
         ensures tuples { map fact_of result.items ≡ self }
     {
@@ -111,7 +111,7 @@ impl ListedFacts {
         List::from_vec(tuples)
     }
 
-    /// The set as a tree. It is refused only for want of memory.
+    /// The set as a tree.
     pub(crate) fn tree(&self, alloc: Global) -> Result<PlainFacts, Memory>
         ensures same { IfOk result (λ facts. facts ≡ self.now) }
     {
@@ -126,8 +126,7 @@ impl ListedFacts {
         }
     }
 
-    /// Puts a tuple in, and tells whether it is new. It is refused only for want of memory; it then hands the tuple
-    /// back, and the set is unchanged.
+    /// Puts a tuple in, and tells whether it is new. If it is refused, it hands the tuple back, and the set is unchanged.
     pub(crate) fn insert(&mut self, tuple: Tuple) -> Result<bool, (Tuple, Memory)>
         ensures changed { IfOk result (λ changed. changed ≡ not (has self.old (fact_of tuple))) }
         ensures ok { OnOk result (self.new ≡ change self.old (Insert (fact_of tuple))) }
@@ -144,7 +143,7 @@ impl ListedFacts {
         }
     }
 
-    /// Takes a tuple away, and tells whether it was there. It takes no memory.
+    /// Takes a tuple away, and tells whether it was there.
     pub(crate) fn remove(&mut self, tuple: &Tuple) -> bool
         ensures changed { result ≡ has self.old (fact_of tuple.now) }
         ensures after { self.new ≡ change self.old (Delete (fact_of tuple.now)) }

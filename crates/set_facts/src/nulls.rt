@@ -21,7 +21,7 @@ pub fn holders(by_null: &Groups, update: u32, place: u32) -> Option<&Group>
     by_null.get(&outer(update, place))
 }
 
-/// The index of all tuples of the set. It is refused only for want of memory.
+/// The index of all tuples of the set.
 pub fn index_nulls(alloc: Global, facts: &PlainFacts) -> Result<Groups, Memory>
     ensures index { IfOk result (λ by_null. IsNullIndex facts.now by_null) }
     ensures in_order { IsRepository facts.now }
@@ -33,8 +33,8 @@ pub fn index_nulls(alloc: Global, facts: &PlainFacts) -> Result<Groups, Memory>
     Ok(by_null)
 }
 
-/// Keeps a copy of the tuple at each null that it holds. It is refused only for want of memory; it may then be kept at some of
-/// them, and what else is kept is as before.
+/// Keeps a copy of the tuple at each null that it holds. If it is refused, it may be kept at some of them, and what else is kept
+/// is as before.
 pub fn keep_nulls(by_null: &mut Groups, alloc: Global, tuple: &Tuple) -> Result<(), Memory>
     ensures ok { OnOk result (AddsHolder (λ u k. holds_null u k (fact_of tuple.now))
         (fact_of tuple.now) by_null.old by_null.new) }
@@ -46,7 +46,7 @@ pub fn keep_nulls(by_null: &mut Groups, alloc: Global, tuple: &Tuple) -> Result<
     Ok(())
 }
 
-/// Takes the tuple, and no other, away from each null that it holds. It takes no memory.
+/// Takes the tuple, and no other, away from each null that it holds.
 pub fn drop_nulls(by_null: &mut Groups, tuple: &Tuple)
     ensures dropped { DropsHolder (λ u k. holds_null u k (fact_of tuple.now))
         (fact_of tuple.now) by_null.old by_null.new }
@@ -56,8 +56,7 @@ pub fn drop_nulls(by_null: &mut Groups, tuple: &Tuple)
     }
 }
 
-// Keeps a copy of the tuple at the value, if that is a null. It is refused only for want of memory; what is kept is then as
-// before.
+// Keeps a copy of the tuple at the value, if that is a null. If it is refused, what is kept is as before.
 fn keep_at(by_null: &mut Groups, alloc: Global, value: &Value, tuple: &Tuple) -> Result<(), Memory>
     ensures ok { OnOk result (AddsHolder (λ u k. is_named u k (datum_of value.now))
         (fact_of tuple.now) by_null.old by_null.new) }

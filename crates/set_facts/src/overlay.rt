@@ -41,7 +41,7 @@ impl<'a, F: Facts> Model for Overlay<'a, F> {
 }
 
 impl<'a, F: Facts> Overlay<'a, F> {
-    /// The set as it is, before any write. It takes no memory.
+    /// The set as it is, before any write.
     pub fn new(alloc: Global, facts: &'a F) -> Overlay<'a, F>
         ensures same { result ≡ F.tuples facts.now }
     {
@@ -54,7 +54,7 @@ impl<'a, F: Facts> Overlay<'a, F> {
         }
     }
 
-    /// Applies one write. It is refused only for want of memory; the tuples are then the same.
+    /// Applies one write. If it is refused, the tuples are the same.
     pub fn write(&mut self, alloc: Global, write: &Write) -> Result<(), Memory>
         ensures ok { OnOk result (self.new ≡ change self.old (change_of write.now)) }
         ensures err { OnErr result (self.new ≡ self.old) }
@@ -89,8 +89,7 @@ impl<'a, F: Facts> Overlay<'a, F> {
         }
     }
 
-    /// Applies the writes in turn. It is refused only for want of memory; the first so many of them are then applied, and
-    /// the others are not.
+    /// Applies the writes in turn. If it is refused, the first so many of them are applied, and the others are not.
     pub fn write_all(&mut self, alloc: Global, writes: &[Write]) -> Result<(), Memory>
         ensures ok { OnOk result (self.new ≡ apply self.old (map change_of writes.now)) }
         ensures err { OnErr result

@@ -41,8 +41,8 @@ pub fn keeps(relations: &Vec<Columns>, column: u16, value: &Value, tuple: &Tuple
     }
 }
 
-/// Keeps a copy of the tuple in each column of its relation. It is refused only for want of memory; some of its columns
-/// may then keep it, and what else is kept is as before.
+/// Keeps a copy of the tuple in each column of its relation. If it is refused, some of its columns may keep it, and what else is
+/// kept is as before.
 pub fn keep(relations: &mut Vec<Columns>, alloc: Global, tuple: &Tuple) -> Result<(), Memory>
     ensures ok { OnOk result (AddsOne (fact_of tuple.now) relations.old.items relations.new.items) }
     ensures err { OnErr result
@@ -51,7 +51,7 @@ pub fn keep(relations: &mut Vec<Columns>, alloc: Global, tuple: &Tuple) -> Resul
     keep_at(relations, alloc, tuple.relation as usize, tuple)
 }
 
-/// Takes the tuple, and no other, out of each column of its relation. It takes no memory.
+/// Takes the tuple, and no other, out of each column of its relation.
 pub fn drop_out(relations: &mut Vec<Columns>, tuple: &Tuple)
     ensures dropped { DropsOne (fact_of tuple.now) relations.old.items relations.new.items }
 {

@@ -33,7 +33,7 @@ impl Model for RisingFacts {
 }
 
 impl RisingFacts {
-    /// The empty set. It takes no memory.
+    /// The empty set.
     pub fn new(alloc: Global) -> RisingFacts
         ensures empty { result ≡ [] }
     {
@@ -53,8 +53,7 @@ impl RisingFacts {
         }
     }
 
-    /// Puts a tuple in, and tells whether it is new. It is refused only for want of memory; it then hands the tuple
-    /// back, and the set is unchanged.
+    /// Puts a tuple in, and tells whether it is new. If it is refused, it hands the tuple back, and the set is unchanged.
     pub fn insert(&mut self, tuple: Tuple) -> Result<bool, (Tuple, Memory)>
         ensures changed { IfOk result (λ changed. changed ≡ not (has self.old (fact_of tuple))) }
         ensures ok { OnOk result (self.new ≡ change self.old (Insert (fact_of tuple))) }
@@ -89,7 +88,7 @@ impl RisingFacts {
         Ok(added)
     }
 
-    /// Whether the tuple is there. It is refused only for want of memory; the set stays as it is.
+    /// Whether the tuple is there. If it is refused, the set stays as it is.
     pub fn find(&mut self, tuple: &Tuple) -> Result<bool, Memory>
         ensures answer { IfOk result (λ there. there ≡ has self.old (fact_of tuple.now)) }
         ensures same { self.new ≡ self.old }
@@ -100,7 +99,7 @@ impl RisingFacts {
         }
     }
 
-    /// The tuples in order, taken out of the set. It is refused only for want of memory.
+    /// The tuples in order, taken out of the set.
     pub fn into_list(self, alloc: Global) -> Result<TupleList, Memory>
         ensures tuples { IfOk result (λ list. map fact_of list.items ≡ self) }
     {

@@ -14,7 +14,7 @@ pub struct Below<'v> {
 }
 
 impl<'v> Below<'v> {
-    /// The tuples in order, one by one. It takes no memory.
+    /// The tuples in order, one by one.
     pub fn sweep(&self) -> Sweep<'v>
         ensures all { result ≡ seen self.now.number self.now.versions.now }
     {

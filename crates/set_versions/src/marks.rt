@@ -76,7 +76,7 @@ impl Marks {
         }
     }
 
-    /// Touches the marks. It is refused only for want of memory; nothing is then changed.
+    /// Touches the marks. If it is refused, nothing is changed.
     pub fn touch(&mut self, alloc: Global, touch: Touch) -> Result<(), Memory>
         ensures ok { OnOk result (self.new ≡ touched touch self.old) }
         ensures err { OnErr result (self.new ≡ self.old) }

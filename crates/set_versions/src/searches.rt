@@ -37,7 +37,7 @@ impl<'c> Model for Held<'c> {
 }
 
 impl<'c> Held<'c> {
-    /// A search for the tuple. It takes no memory.
+    /// A search for the tuple.
     pub fn new(tuple: &'c Tuple) -> Held<'c>
         ensures tuple { result ≡ tuple.now }
     {
@@ -210,7 +210,7 @@ impl<'c> Model for Lead<'c> {
 }
 
 impl<'c> Lead<'c> {
-    /// A search for these tuples. It takes no memory.
+    /// A search for these tuples.
     pub fn new(number: u32, relation: u16, value: &'c Value, past: Option<&'c Tuple>) -> Lead<'c>
         ensures search { result ≡ record {
           number = number;

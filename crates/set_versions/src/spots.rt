@@ -6,7 +6,7 @@ ghost use Rattle.set_versions.specs.Spots.{digest as digest_def, digest_from, sp
 
 use base_types::Value;
 
-/// The spot of a relation, a column, and the value there, where there is one. It takes no memory.
+/// The spot of a relation, a column, and the value there, where there is one.
 pub fn spot(relation: u16, column: usize, value: Option<&Value>) -> u32
     ensures spot { result ≡
         spot_def relation column (option_map datum_of (option_copied value.entry)) }

@@ -40,16 +40,15 @@ pub trait Spread: Share {
     // Whether two spots have one shelf.
     ghost same: { ℕ → ℕ → Bool };
 
-    /// No marks at all. It takes no memory.
+    /// No marks at all.
     fn none() -> Self
         ensures none { (j : ℕ) → shelves result j ≡ [] };
 
-    /// The shelf of the spot, where there is one. It takes no memory.
+    /// The shelf of the spot, where there is one.
     fn shelf(&self, spot: u32) -> Option<&Shelf>
         ensures shelf { cells_on (option_copied result) ≡ shelves self.now spot };
 
     /// Puts these marks on the shelf of the spot at the cell, or takes the cell out where they say that the tuple is nowhere.
-    /// It is refused only for want of memory.
     fn set(&mut self, alloc: Global, spot: u32, cell: Cell, marks: Marks) -> Result<(), Memory>
         ensures ok { OnOk result ((j : ℕ) → shelves self.new j ≡ cond (same j spot)
             (set_entry (on cell_of cell_cmp) (shelves self.old j) cell marks) (shelves self.old j)) };

@@ -74,7 +74,7 @@ impl<'a> Sweep<'a> {
         }
     }
 
-    /// The next tuple; None exactly where there is none to come. It takes no memory.
+    /// The next tuple; None exactly where there is none to come.
     pub fn next(&mut self) -> Option<&'a Tuple>
         ensures step { self.old ≡
             option_to_list (option_map fact_of (option_copied result)) ++ self.new }

@@ -50,7 +50,7 @@ impl Table {
     ghost use Rattle.std.specs.Prelude.{cond};
     ghost use Rattle.def_chase.specs.Values.{Fact, same_fact};
 
-    /// The table of no tuple. It takes no memory.
+    /// The table of no tuple.
     pub fn none() -> Table
         ensures none { result ≡ [] }
     {
@@ -105,8 +105,8 @@ impl Table {
         }
     }
 
-    /// Puts these marks of the tuple in, in place where no other handle shares what is changed. It is refused only for want of
-    /// memory; the table is then as it was, without its index.
+    /// Puts these marks of the tuple in, in place where no other handle shares what is changed. If it is refused, the table is as
+    /// it was, without its index.
     pub fn put(&mut self, alloc: Global, key: Handle, marks: Marks) -> Result<(), Memory>
         requires in_order { AreMarks marks }
         ensures marks { OnOk result ((t : Fact) → marks_at self.new t ≡
@@ -135,7 +135,7 @@ impl Table {
     ghost use Rattle.def_chase.specs.Values.{fact_cmp};
     ghost use Rattle.set_versions.specs.Marked.{visible};
 
-    /// The rows in order, as a cursor. It takes no memory.
+    /// The rows in order, as a cursor.
     pub fn cursor(&self) -> Cursor<'_, Handle, Marks>
         ensures rows { result ≡ self.now }
     {

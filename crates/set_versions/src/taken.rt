@@ -88,7 +88,7 @@ impl Taken {
         }
     }
 
-    /// All of them in order, to be passed. It takes no memory.
+    /// All of them in order, to be passed.
     pub fn passing(&self) -> Passing<'_>
         ensures all { to_pass result ≡ self.now }
         ensures ready { AreToPass result }

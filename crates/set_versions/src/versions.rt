@@ -47,7 +47,7 @@ impl Model for Versions {
 }
 
 impl Versions {
-    /// The versions of a base that no update has written to. It is refused only for want of memory.
+    /// The versions of a base that no update has written to.
     pub fn of(alloc: Global, base: IndexedFacts) -> Result<Versions, Memory>
         ensures base { IfOk result (λ versions. StandFor versions base no_trails) }
     {
@@ -63,7 +63,7 @@ impl Versions {
         }
     }
 
-    /// Another handle to the same versions, in constant time. It is refused only for want of memory.
+    /// Another handle to the same versions, in constant time.
     pub fn share(&self) -> Result<Versions, Memory>
         ensures same { IfOk result (λ copy. copy ≡ self.now) }
     {
@@ -86,21 +86,21 @@ impl Versions {
         Ok(Versions { base, taken, table })
     }
 
-    /// How many tuples the base has. It takes no memory.
+    /// How many tuples the base has.
     pub fn base_len(&self) -> usize
         ensures length { result ≡ length self.now.base }
     {
         self.base.len()
     }
 
-    /// How many tuples updates have written. It takes no memory.
+    /// How many tuples updates have written.
     pub fn rows_len(&self) -> usize
         ensures length { result ≡ length self.now.rows }
     {
         self.table.len()
     }
 
-    /// Adds writes behind those of the update. It is refused only for want of memory; nothing is then changed.
+    /// Adds writes behind those of the update. If it is refused, nothing is changed.
     pub fn publish(&mut self, alloc: Global, number: u32, writes: &[Write]) -> Result<(), Memory>
         ensures ok { OnOk result (Published number (map change_of writes.now) self.old self.new) }
         ensures err { OnErr result (self.new ≡ self.old) }
@@ -117,8 +117,7 @@ impl Versions {
         Ok(())
     }
 
-    /// Takes the writes of the update back, all of them, which are handed in. It is refused only for want of memory;
-    /// nothing is then changed.
+    /// Takes the writes of the update back, all of them, which are handed in. If it is refused, nothing is changed.
     pub fn retract(&mut self, alloc: Global, number: u32, writes: &[Write]) -> Result<(), Memory>
         ensures ok { OnOk result (Retracted number (map change_of writes.now) self.old self.new) }
         ensures err { OnErr result (self.new ≡ self.old) }
@@ -128,9 +127,8 @@ impl Versions {
         Ok(())
     }
 
-    /// Puts the writes of the update into the base, all of them, which are handed in; it then has none. Where the lower
-    /// updates have no writes, what the higher ones see is as before. It is refused only for want of memory; nothing is
-    /// then changed.
+    /// Puts the writes of the update into the base, all of them, which are handed in; it then has none. Where the lower updates
+    /// have no writes, what the higher ones see is as before. If it is refused, nothing is changed.
     pub fn fold(&mut self, alloc: Global, number: u32, writes: &[Write]) -> Result<(), Memory>
         ensures ok { OnOk result (Folded number (map change_of writes.now) self.old self.new) }
         ensures err { OnErr result (self.new ≡ self.old) }
@@ -140,14 +138,14 @@ impl Versions {
         Ok(())
     }
 
-    /// Whether the update wrote a tuple of the relation. It takes no memory, and looks through the tuples of the relation.
+    /// Whether the update wrote a tuple of the relation. It looks through the tuples of the relation.
     pub fn wrote(&self, number: u32, relation: u16) -> bool
         ensures answer { Wrote number relation result self.now }
     {
         self.table.is_marked(number, relation)
     }
 
-    /// What the update sees. It takes no memory.
+    /// What the update sees.
     pub fn below(&self, number: u32) -> Below<'_>
         ensures versions { result.versions.now ≡ self.now }
         ensures number { result.number ≡ number }

@@ -21,7 +21,7 @@ pub struct Case {
 }
 
 impl Case {
-    /// A case of which no line was taken. It takes no memory.
+    /// A case of which no line was taken.
     pub fn new(alloc: Global) -> Case {
         Case {
             head: None,
@@ -31,7 +31,7 @@ impl Case {
         }
     }
 
-    /// Takes the next line. It is refused only for want of memory.
+    /// Takes the next line.
     pub fn take(&mut self, line: String) -> Result<(), CaseRefusal> {
         if self.head.is_none() {
             self.head = Some(line);
@@ -45,12 +45,12 @@ impl Case {
         Ok(())
     }
 
-    /// The lines of its calls. It takes no memory.
+    /// The lines of its calls.
     pub fn calls(&self) -> &[String] {
         self.calls.as_slice()
     }
 
-    /// Its session. It is refused where its text spells none, and for want of memory.
+    /// Its session. It is refused if its text spells none.
     pub fn session(&self, alloc: Global) -> Result<Session, CaseRefusal>
         ensures valid { IfOk result (λ session. IsSession (session_of session)) }
     {

@@ -14,14 +14,14 @@ pub fn number_of(name: &str, letter: char) -> Result<u32, CaseRefusal> {
     }
 }
 
-/// Adds the words as a line. It is refused only for want of memory.
+/// Adds the words as a line.
 pub fn with_line(mut text: Vec<u8>, line: &str) -> Result<Vec<u8>, CaseRefusal> {
     text.extend_from_slice(line.as_bytes())?;
     text.push(b'\n')?;
     Ok(text)
 }
 
-/// Adds the lines of the entries from this place on, counted from 0. It is refused only for want of memory.
+/// Adds the lines of the entries from this place on, counted from 0.
 pub fn with_entries(
     alloc: Global,
     mut text: Vec<u8>,

@@ -33,7 +33,7 @@ pub enum Asked {
     Result,
 }
 
-/// The call that a line spells. It is refused where the line spells none, and for want of memory.
+/// The call that a line spells. It is refused if the line spells none.
 pub fn read_call(alloc: Global, schema: &Schema, line: &str) -> Result<Call, CaseRefusal> {
     match line {
         "drain" => return Ok(Call::Drain),

@@ -15,8 +15,7 @@ use lang_session::Session;
 use std::alloc::Global;
 use try_cases::{Case, CaseRefusal, with_entries, with_line};
 
-/// What the calls of the case answer, in lines. It is refused where the case is not spelled as it should be, and for want of
-/// memory.
+/// What the calls of the case answer, in lines. It is refused if the case is not spelled as it should be.
 pub fn told(alloc: Global, case: &Case) -> Result<Vec<u8>, CaseRefusal> {
     let (budget, settings) = case.settings()?;
     let session = case.session(alloc)?;

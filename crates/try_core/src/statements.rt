@@ -15,7 +15,7 @@ pub enum Said {
     Update(Update),
 }
 
-/// What the line says. It is refused where it is no answer and no update that suits the schema, and for want of memory.
+/// What the line says. It is refused if it is no answer and no update that suits the schema.
 pub fn read_statement(alloc: Global, schema: &Schema, line: &str) -> Result<Said, CaseRefusal> {
     let words = Words::of(line.as_bytes())?;
     match statement_at(alloc, Section::Updates, 2, words)? {

@@ -20,7 +20,7 @@ use std::sync::Wait;
 use try_cases::{Case, CaseRefusal};
 use work_session::{Answers, Seated};
 
-/// What the case tells, in lines. It is refused where the case is not spelled as it should be, and for want of memory.
+/// What the case tells, in lines. It is refused if the case is not spelled as it should be.
 pub fn told<R: Wait>(rt: &R, alloc: Global, case: &Case) -> Result<Vec<u8>, CaseRefusal> {
     let (budget, settings) = case.settings()?;
     let session = case.session(alloc)?;

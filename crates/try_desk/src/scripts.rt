@@ -17,7 +17,7 @@ pub struct Script {
     is_again: bool,
 }
 
-/// The script of these lines. It is refused where a line spells no call, and for want of memory.
+/// The script of these lines. It is refused if a line spells no call.
 pub fn read_script(alloc: Global, lines: &[String]) -> Result<Script, CaseRefusal> {
     let mut turns = Vec::new(alloc);
     for line in lines {

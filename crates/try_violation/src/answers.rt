@@ -20,7 +20,7 @@ pub struct Answers {
 }
 
 impl Answers {
-    /// The answers over a set of tuples. It is refused only for want of memory.
+    /// The answers over a set of tuples.
     pub fn over<F: Facts>(
         alloc: Global,
         mapping: &Mapping,

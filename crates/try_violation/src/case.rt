@@ -16,7 +16,7 @@ pub struct Case {
 }
 
 impl Case {
-    /// The case that has nothing yet. It takes no memory.
+    /// The case that has nothing yet.
     pub fn new(alloc: Global) -> Case {
         let mapping = Mapping {
             name: List::new(alloc),
@@ -34,7 +34,7 @@ impl Case {
     }
 }
 
-// Makes the write in the plain set. It is refused only for want of memory; the set is then as it was.
+// Makes the write in the plain set. If it is refused, the set is as it was.
 fn write_plain(alloc: Global, facts: &mut PlainFacts, write: &Write) -> Result<(), Memory>
     ensures ok { OnOk result (facts.new ≡ change facts.old (change_of write.now)) }
     ensures err { OnErr result (facts.new ≡ facts.old) }
@@ -50,7 +50,7 @@ fn write_plain(alloc: Global, facts: &mut PlainFacts, write: &Write) -> Result<(
     Ok(())
 }
 
-// Makes the write in the indexed set. It is refused only for want of memory; the set is then as it was.
+// Makes the write in the indexed set. If it is refused, the set is as it was.
 fn write_indexed(alloc: Global, facts: &mut IndexedFacts, write: &Write) -> Result<(), Memory>
     ensures ok { OnOk result (facts.new ≡ change facts.old (change_of write.now)) }
     ensures err { OnErr result (facts.new ≡ facts.old) }

@@ -91,7 +91,7 @@ impl<C: Core> Board<C> {
     ghost use Rattle.work_desk.specs.Tickets.{IsPlanFor, IfGiven, IsOutOn, NextOn, WaitsOn, StepOn};
     ghost use Rattle.work_desk.specs.Tickets.{FinishOn, BackOn};
 
-    /// A board over the core, with no ticket given. It takes no memory.
+    /// A board over the core, with no ticket given.
     pub(crate) fn new(alloc: Global, core: C) -> Board<C>
         ensures over { result.over ≡ C.over core }
         ensures history { result.history ≡ C.history core }

@@ -47,50 +47,48 @@ pub trait Core {
         ensures budget { 1 ≤ (over self.now).budget }
         ensures legal { IsLegalOver (over self.now) (history self.now) };
 
-    /// The lowest ready update that is not among those in flight. It takes no memory.
+    /// The lowest ready update that is not among those in flight.
     fn lowest_idle(&self, busy: &[u32]) -> Option<u32>
         ensures { result ≡ lowest_idle (over self.now) (history self.now) busy.now };
 
-    /// The lowest update that an answer can be delivered to. It takes no memory.
+    /// The lowest update that an answer can be delivered to.
     fn lowest_waiting(&self) -> Option<u32>
         ensures { result ≡ lowest_waiting (over self.now) (history self.now) };
 
-    /// The lowest update that an answer can be delivered to, where that is to come before any step. It takes no memory.
+    /// The lowest update that an answer can be delivered to, where that is to come before any step.
     fn first_waiting(&self) -> Option<u32>
         ensures lowest { IfSome result (λ u. lowest_waiting (over self.now) (history self.now) ≡ Some u) };
 
-    /// Delivers the first of the answers that wait for the update. It is refused only for want of memory; the history is then
-    /// unchanged.
+    /// Delivers the first of the answers that wait for the update. If it is refused, the history is unchanged.
     fn deliver(&mut self, alloc: Global, update: u32) -> Result<(), Memory>
         requires waiting { lowest_waiting (over self.old) (history self.old) ≡ Some update }
         ensures over { over self.new ≡ over self.old }
         ensures made { IfOk result (λ _. HasDelivered over history self.old self.new update) }
         ensures kept { IfErr result (λ _. history self.new ≡ history self.old) };
 
-    /// What is needed to plan the update's next step. It is refused only for want of memory.
+    /// What is needed to plan the update's next step.
     fn snapshot(&self, alloc: Global, update: u32) -> Result<Self::Snapshot, Memory>
         requires ready { IsReady (over self.now) (history self.now) update }
         ensures is { IfOk result (λ s. is_snapshot s (over self.now) (history self.now) update) };
 
-    /// The step that the snapshot tells. It needs no core. It is refused only for want of memory.
+    /// The step that the snapshot tells. It needs no core.
     fn plan(alloc: Global, snapshot: &Self::Snapshot) -> Result<Self::Plan, Memory>
         ensures plan { IfOk result (IsPlanOf is_snapshot is_plan snapshot.now) };
 
-    /// The update's next step, without a snapshot. The core may keep what planning it told, which is seen of none. It is refused
-    /// only for want of memory.
+    /// The update's next step, without a snapshot. The core may keep what planning it told, which is seen of none.
     fn next_plan(&mut self, alloc: Global, update: u32) -> Result<Self::Plan, Memory>
         requires ready { IsReady (over self.old) (history self.old) update }
         ensures over { over self.new ≡ over self.old }
         ensures history { history self.new ≡ history self.old }
         ensures plan { IfOk result (λ p. is_plan p (over self.old) (history self.old) update) };
 
-    /// The number of the first entry past so many by which the plan is stale. Where there is none the plan, made at
-    /// the state before them, is the update's step still. It takes no memory.
+    /// The number of the first entry past so many by which the plan is stale. Where there is none the plan, made at the state
+    /// before them, is the update's step still.
     fn stale_by(&self, plan: &Self::Plan, since: u64) -> Option<u64>
         ensures entry { result ≡ stale_since plan.now (over self.now) (history self.now) since }
         ensures stays { IfNone result (HasStayed over history self.now (is_plan plan.now) since) };
 
-    /// Makes the step of the plan. It is refused only for want of memory; the history is then unchanged.
+    /// Makes the step of the plan. If it is refused, the history is unchanged.
     fn install(&mut self, alloc: Global, plan: Self::Plan) -> Result<(), Memory>
         requires plan { (u : ℕ) × is_plan plan (over self.old) (history self.old) u }
         ensures over { over self.new ≡ over self.old }

@@ -98,8 +98,7 @@ impl<C: Core> Desk<C> {
         stretch
     }
 
-    /// The step of the ticket's update at the state that the ticket was given at. It takes neither the lock nor the runtime,
-    /// and is refused only for want of memory.
+    /// The step of the ticket's update at the state that the ticket was given at. It takes neither the lock nor the runtime.
     pub fn evaluate(&self, ticket: &Ticket<C::Snapshot>) -> Result<C::Plan, Memory>
         ensures plan { IfOk result (IsPlanFor C.is_snapshot C.is_plan ticket.now) }
     {

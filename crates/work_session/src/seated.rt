@@ -39,7 +39,7 @@ impl<'s> Model for Seated<'s> {
 }
 
 impl<'s> Seated<'s> {
-    /// The core, with the mappings that its history is over. It takes no memory.
+    /// The core, with the mappings that its history is over.
     pub fn new(core: Core<'s>, mappings: &'s MappingList, answers: Answers) -> Seated<'s>
         requires same { map rule_of mappings.now.items ≡ core.over.rules }
         ensures core { result ≡ core.entry }
@@ -51,7 +51,7 @@ impl<'s> Seated<'s> {
         }
     }
 
-    /// The core alone. It takes no memory.
+    /// The core alone.
     pub fn into_core(self) -> Core<'s>
         ensures core { result ≡ self.entry }
     {

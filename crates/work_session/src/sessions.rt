@@ -65,7 +65,7 @@ impl<'s> Model for WorkedSession<'s> {
 
 impl<'s> WorkedSession<'s> {
     /// The entries of the history: first the admissions of all updates, then steps and deliveries, until nothing is ready and
-    /// nothing can be delivered. It takes no memory.
+    /// nothing can be delivered.
     pub fn history(&self) -> &[Entry]
         ensures history { map entry_of result.now ≡ self.now.history }
         ensures whole { IsWholeRun self.now }
@@ -73,8 +73,7 @@ impl<'s> WorkedSession<'s> {
         self.core.history()
     }
 
-    /// What the session came to: whatever the schedule of the workers, that is its serial run. It is refused only for want of
-    /// memory.
+    /// What the session came to: whatever the schedule of the workers, that is its serial run.
     pub fn result(&self, alloc: Global) -> Result<SessionResult, Memory>
         ensures serial { IfOk result (IsSerialRun self.now.budget self.now.session) }
     {
@@ -84,9 +83,8 @@ impl<'s> WorkedSession<'s> {
     }
 }
 
-/// Runs the session by as many workers as seats, from 1 to 16, each in a thread of its own, until nothing is left to do. Where
-/// no thread can be made the calling thread works in its place. Recorded answers are delivered at once. It is refused only for want
-/// of memory.
+/// Runs the session by as many workers as seats, from 1 to 16, each in a thread of its own, until nothing is left to do. Where no
+/// thread can be made the calling thread works in its place. Recorded answers are delivered at once.
 pub fn worked<'s, R: Threads + Wait + Clock + Sync, G: Gate + Sync>(
     rt: &R,
     gate: &G,
@@ -116,8 +114,7 @@ pub fn worked<'s, R: Threads + Wait + Clock + Sync, G: Gate + Sync>(
     Ok(run)
 }
 
-/// The same over the base of the session, which is handed over as a set of tuples (`base_of`), with answers delivered as asked. It is refused only for want of
-/// memory.
+/// The same over the base of the session, which is handed over as a set of tuples (`base_of`), with answers delivered as asked.
 pub fn worked_over<'s, R: Threads + Wait + Clock + Sync, G: Gate + Sync>(
     rt: &R,
     gate: &G,

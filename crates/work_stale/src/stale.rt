@@ -13,9 +13,8 @@ use base_types::{MappingList, Write};
 use chase_query::Logged;
 use core_entries::Entry;
 
-/// The number of the first entry after so many by which a step of this update with these reads is stale: it wrote, or
-/// took away, in a relation that a read mentions and as a write of an update below, or it restarted the update. Entries are
-/// counted from 1. It takes no memory.
+/// The number of the first entry after so many by which a step of this update with these reads is stale: it wrote, or took away,
+/// in a relation that a read mentions and as a write of an update below, or it restarted the update. Entries are counted from 1.
 pub fn stale_by(
     mappings: &MappingList,
     entries: &[Entry],

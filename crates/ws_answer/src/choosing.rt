@@ -191,7 +191,7 @@ fn facts_of(alloc: Global, space: &Space, tuples: &TupleList) -> Result<Vec<Fact
     Ok(facts)
 }
 
-/// The answer that gives the choice to the question. It is refused only for want of memory.
+/// The answer that gives the choice to the question.
 pub(crate) fn answer_to(
     alloc: Global,
     space: &Space,

@@ -77,7 +77,7 @@ fn done(
     Ok(report)
 }
 
-/// What is told of an update that asks. It is refused only for want of memory.
+/// What is told of an update that asks.
 pub(crate) fn asking(
     alloc: Global,
     status: Status,

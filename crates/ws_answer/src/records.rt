@@ -25,7 +25,7 @@ pub(crate) fn is_waiting(space: &Space, number: u32) -> bool {
     false
 }
 
-/// The numbers of the updates that wait. It is refused only for want of memory.
+/// The numbers of the updates that wait.
 pub(crate) fn waiting_numbers(alloc: Global, space: &Space) -> Result<BTreeSet<u32>, Memory> {
     let mut numbers = BTreeSet::new(alloc);
     for waiting in space.state.waiting().as_slice() {
@@ -34,7 +34,7 @@ pub(crate) fn waiting_numbers(alloc: Global, space: &Space) -> Result<BTreeSet<u
     Ok(numbers)
 }
 
-/// The numbers of the updates that are undone, or of those that are not. It is refused only for want of memory.
+/// The numbers of the updates that are undone, or of those that are not.
 pub(crate) fn undone_numbers(
     alloc: Global,
     space: &Space,
@@ -49,7 +49,7 @@ pub(crate) fn undone_numbers(
     Ok(numbers)
 }
 
-/// The numbers of the updates that stand or wait with answers. It is refused only for want of memory.
+/// The numbers of the updates that stand or wait with answers.
 pub(crate) fn answered_numbers(alloc: Global, space: &Space) -> Result<BTreeSet<u32>, Memory> {
     let mut numbers = BTreeSet::new(alloc);
     for standing in space.state.order().as_slice() {

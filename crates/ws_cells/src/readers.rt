@@ -55,7 +55,7 @@ impl<'a> CsvReader<'a> {
         self.faults.as_slice()
     }
 
-    /// The next row; none at the end. It is refused only for want of memory.
+    /// The next row; none at the end.
     pub fn next_row(&mut self) -> Result<Option<CsvRow>, AllocError> {
         for _ in 0..u64::MAX {
             if self.rest.is_empty() {

@@ -36,8 +36,7 @@ fn is_quoted(text: &str) -> bool {
     text.is_empty() || text.trim().len() != text.len() || text.contains(['"', ',', '\r', '\n'])
 }
 
-/// Adds a text as a cell: between quotes, its quotes doubled, if it would else be read as another one. It is refused only
-/// for want of memory.
+/// Adds a text as a cell: between quotes, its quotes doubled, if it would else be read as another one.
 pub fn add_csv_cell(out: &mut Text, text: &str) {
     if !is_quoted(text) {
         return out.push_str(text);

@@ -193,8 +193,7 @@ fn steps_text(
     Ok(text)
 }
 
-/// The plain cycle that the mapping closes with those that are not gone, if it closes one: `A -> B by M, ..`. It is refused
-/// only for want of memory.
+/// The plain cycle that the mapping closes with those that are not gone, if it closes one: `A -> B by M, ..`.
 pub(crate) fn cycle_words(
     alloc: Global,
     space: &Space,

@@ -10,7 +10,7 @@ use ws_space::Space;
 use ws_written::{Atom, Rule, Term};
 
 /// The hints about a mapping, each `_` of which is a variable of its own: a variable that stands once and is a text of its
-/// column, and an atom of the right side that shares no variable with the left one. It is refused only for want of memory.
+/// column, and an atom of the right side that shares no variable with the left one.
 pub(crate) fn lints_of(alloc: Global, space: &Space, rule: &Rule) -> Result<Vec<Note>, Memory> {
     let mut notes = Vec::new(alloc);
     for atom in rule.left.iter() {

@@ -17,7 +17,7 @@ const MAPPINGS: usize = 40;
 /// The most variables that stand on both sides.
 const SHARED: usize = 8;
 
-/// The mapping with a variable of its own for each `_`. It is refused only for want of memory.
+/// The mapping with a variable of its own for each `_`.
 pub(crate) fn apart(alloc: Global, rule: &Rule) -> Result<Rule, Memory> {
     let mut copy = copy_rule(alloc, rule)?;
     set_apart(alloc, &mut copy)?;

@@ -10,7 +10,7 @@ use ws_space::{Space, unknown_of};
 
 // A repair is a tuple here: the number of its mapping, and by names the values of the variables on both sides.
 
-/// The repairs of a mapping that wait. It is refused only for want of memory.
+/// The repairs of a mapping that wait.
 pub(crate) fn waiting_repairs(
     alloc: Global,
     space: &Space,
@@ -30,7 +30,7 @@ pub(crate) fn waiting_repairs(
     Ok(repairs)
 }
 
-/// The repairs of the violations of a mapping, but for those that wait, in order. It is refused only for want of memory.
+/// The repairs of the violations of a mapping, but for those that wait, in order.
 pub(crate) fn open_repairs(
     alloc: Global,
     space: &Space,
@@ -70,7 +70,7 @@ fn within(alloc: Global, space: &Space, value: &Value) -> Result<Option<Value>, 
     }
 }
 
-/// Whether the violation that a repair is for is still there. It is refused only for want of memory.
+/// Whether the violation that a repair is for is still there.
 pub(crate) fn is_violated(alloc: Global, space: &Space, repair: &Tuple) -> Result<bool, Memory> {
     let Some(mapping) = space.state.mappings().get(usize::from(repair.relation)) else {
         return Ok(false);

@@ -6,7 +6,7 @@ use std::collections::{BTreeMap, BTreeSet};
 use ws_run::{Step, WANT};
 use ws_space::Space;
 
-/// The tuples that were there before the updates that stand from this place on, within. It is refused only for want of memory.
+/// The tuples that were there before the updates that stand from this place on, within.
 pub(crate) fn tuples_before(
     alloc: Global,
     space: &Space,
@@ -47,7 +47,7 @@ fn take_back(tuples: &mut BTreeSet<Tuple>, step: &Step) -> Result<(), Memory> {
     Ok(())
 }
 
-/// The nulls of the tuples, each with its place among them, from 1. It is refused only for want of memory.
+/// The nulls of the tuples, each with its place among them, from 1.
 pub(crate) fn places_of(
     alloc: Global,
     tuples: &BTreeSet<Tuple>,

@@ -7,7 +7,7 @@ use ws_print::{Lines, Text, add_unknown};
 use ws_space::{Space, unknown_of};
 use ws_written::STEPS;
 
-/// Adds the comments of a dump whose base has so many of the updates that stand. It is refused only for want of memory.
+/// Adds the comments of a dump whose base has so many of the updates that stand.
 pub(crate) fn add_comments(
     alloc: Global,
     lines: &mut Lines,

@@ -71,7 +71,7 @@ fn added_by(standing: &Standing) -> usize {
     added
 }
 
-/// How many of the updates that stand, from the first on, are in the base of the dump. It is refused only for want of memory.
+/// How many of the updates that stand, from the first on, are in the base of the dump.
 pub(crate) fn cut_of(alloc: Global, space: &Space) -> Result<usize, Memory> {
     let order = space.state.order().as_slice();
     let mut weight = Weight::new(alloc);

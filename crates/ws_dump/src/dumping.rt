@@ -16,7 +16,7 @@ use std::collections::BTreeSet;
 use ws_print::Lines;
 use ws_space::Space;
 
-/// The lines of the dump. It is refused only for want of memory.
+/// The lines of the dump.
 pub fn dump(alloc: Global, space: &Space) -> Result<Vec<String>, Memory> {
     let cut = cut_of(alloc, space)?;
     let tuples = tuples_before(alloc, space, cut)?;

@@ -79,7 +79,7 @@ fn is_hidden(tuple: &Tuple) -> bool {
 }
 
 /// The relations of a dump, those of the workspace first, and then the hidden ones that the updates use which stand from this
-/// place on. It is refused only for want of memory.
+/// place on.
 pub(crate) fn relations_of(
     alloc: Global,
     space: &Space,

@@ -6,8 +6,7 @@ use std::alloc::Global;
 use ws_run::{drawing_mapping, fixing_mapping};
 use ws_space::Space;
 
-/// The mappings in force before the updates that stand from this place on, and then the hidden ones. It is refused only for
-/// want of memory.
+/// The mappings in force before the updates that stand from this place on, and then the hidden ones.
 pub(crate) fn first_mappings(
     alloc: Global,
     space: &Space,
@@ -29,7 +28,7 @@ pub(crate) fn first_mappings(
     Ok(mappings)
 }
 
-/// Adds a mapping of the workspace that is in force since this update of the dump. It is refused only for want of memory.
+/// Adds a mapping of the workspace that is in force since this update of the dump.
 pub(crate) fn add_mapping(
     alloc: Global,
     mappings: &mut MappingList,

@@ -20,7 +20,7 @@ pub(crate) struct Renaming {
 }
 
 impl Renaming {
-    /// A null. It takes no memory.
+    /// A null.
     pub fn null(&self, null: Null) -> Null {
         if self.first < null.update {
             return Null {
@@ -39,7 +39,7 @@ impl Renaming {
         }
     }
 
-    /// A value. It is refused only for want of memory.
+    /// A value.
     pub fn value(&self, value: &Value) -> Result<Value, Memory> {
         match value {
             Value::Null(null) => Ok(Value::Null(self.null(*null))),
@@ -47,7 +47,7 @@ impl Renaming {
         }
     }
 
-    /// A tuple; a repair is one of this mapping. It is refused only for want of memory.
+    /// A tuple; a repair is one of this mapping.
     pub fn tuple(&self, tuple: &Tuple, repaired: Option<u16>) -> Result<Tuple, Memory> {
         let mut values = ValueList::new(self.alloc);
         for value in tuple.values.as_slice() {
@@ -65,7 +65,7 @@ impl Renaming {
         Ok(all)
     }
 
-    /// The choices that an op took. It is refused only for want of memory.
+    /// The choices that an op took.
     pub fn choices(&self, choices: &[Choice], repaired: Option<u16>) -> Result<ChoiceList, Memory> {
         let mut all = ChoiceList::new(self.alloc);
         for choice in choices {
@@ -82,8 +82,7 @@ impl Renaming {
         }
     }
 
-    /// An operation, of which a mapping that it puts in force has this number in the dump. It is refused only for want of
-    /// memory.
+    /// An operation, of which a mapping that it puts in force has this number in the dump.
     pub fn operation(
         &self,
         operation: &Operation,

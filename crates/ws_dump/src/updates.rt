@@ -18,7 +18,7 @@ pub(crate) struct Updates {
 }
 
 impl Updates {
-    /// Adds the updates that stand from this place on. It is refused only for want of memory.
+    /// Adds the updates that stand from this place on.
     pub fn add_all(
         &mut self,
         alloc: Global,

@@ -63,8 +63,8 @@ fn name_blanks(atoms: &mut [Atom], names: &mut Vec<String>) {
     }
 }
 
-/// Each `_` of the mapping becomes a variable of its own: the i-th is `_i`, with one more `_` in front while that name
-/// is taken. It is refused only for want of memory; the mapping is then as it was.
+/// Each `_` of the mapping becomes a variable of its own: the i-th is `_i`, with one more `_` in front while that name is taken.
+/// If it is refused, the mapping is as it was.
 pub fn set_apart(alloc: Global, rule: &mut Rule) -> Result<(), AllocError> {
     let left = count_blanks(rule.left.as_slice());
     let count = left.saturating_add(count_blanks(rule.right.as_slice()));

@@ -7,7 +7,7 @@ use crate::stamps::stamp_of;
 use std::alloc::{AllocError, Global};
 use ws_written::{Head, Stamp};
 
-/// The head of a text, if it is one. It is refused only for want of memory.
+/// The head of a text, if it is one.
 pub fn read_head(alloc: Global, text: &[u8]) -> Result<Option<Head>, AllocError> {
     let Ok(text) = str::from_utf8(text) else {
         return Ok(None);

@@ -82,7 +82,7 @@ pub(crate) fn readable<T: Drop>(read: Result<T, Refusal>) -> Result<Option<T>, A
     }
 }
 
-/// The stamp of a record's text, and the text of its lines, if it has both. It is refused only for want of memory.
+/// The stamp of a record's text, and the text of its lines, if it has both.
 pub fn read_stamp(alloc: Global, text: &[u8]) -> Result<Option<(Stamp, &str)>, AllocError> {
     let Ok(text) = str::from_utf8(text) else {
         return Ok(None);
@@ -96,7 +96,7 @@ pub fn read_stamp(alloc: Global, text: &[u8]) -> Result<Option<(Stamp, &str)>, A
     }
 }
 
-/// A line of a record over the relations that stand before it, if it is one. It is refused only for want of memory.
+/// A line of a record over the relations that stand before it, if it is one.
 pub fn read_line(
     alloc: Global,
     relations: &[Relation],

@@ -28,7 +28,7 @@ pub struct Mark {
 }
 
 impl Ground {
-    /// The tuples with their names, of which no op was done. It takes no memory.
+    /// The tuples with their names, of which no op was done.
     pub fn new(alloc: Global, facts: IndexedFacts, names: Names) -> Ground {
         Ground {
             facts,
@@ -38,7 +38,7 @@ impl Ground {
         }
     }
 
-    /// Where it stands. It takes no memory.
+    /// Where it stands.
     pub fn mark(&self) -> Mark
         ensures trail { result.trail ≡ length self.now.trail.items }
     {
@@ -49,7 +49,7 @@ impl Ground {
         }
     }
 
-    /// Takes back what was done since the mark. It is refused only for want of memory.
+    /// Takes back what was done since the mark.
     pub fn back_to(&mut self, mark: Mark) -> Result<(), Memory>
         ensures back { OnOk result (IsBackTo mark.trail self.old self.new) }
     {
@@ -59,7 +59,7 @@ impl Ground {
         Ok(())
     }
 
-    /// Makes writes in turn, and keeps those that change something. It is refused only for want of memory; some are then made.
+    /// Makes writes in turn, and keeps those that change something. If it is refused, some are made.
     pub fn make(&mut self, writes: WriteList) -> Result<(), Memory>
         ensures grown { HasGrown self.old self.new }
     {
@@ -67,7 +67,7 @@ impl Ground {
     }
 }
 
-// Takes back the writes after the first so many, the last of them first. It is refused only for want of memory.
+// Takes back the writes after the first so many, the last of them first.
 #[tactic(auto, using(crate::proofs::Trailing::back_on, crate::proofs::Trailing::kept_on, crate::proofs::Trailing::fewer_left, crate::proofs::Trailing::back_all, crate::proofs::Trailing::kept_all))]
 fn take_back(facts: &mut IndexedFacts, trail: &mut WriteList, count: usize) -> Result<(), Memory>
     ensures facts { OnOk result
@@ -95,7 +95,7 @@ fn pop_after(trail: &mut WriteList, count: usize) -> Option<Write>
     }
 }
 
-// Takes back the write, which changed something. It is refused only for want of memory.
+// Takes back the write, which changed something.
 fn undo(facts: &mut IndexedFacts, write: Write) -> Result<(), Memory>
     ensures undone { OnOk result (facts.new ≡ change facts.old (undoing (change_of write))) }
 {
@@ -110,7 +110,7 @@ fn undo(facts: &mut IndexedFacts, write: Write) -> Result<(), Memory>
     Ok(())
 }
 
-// Makes the writes in turn, and adds to the trail those that change something. It is refused only for want of memory.
+// Makes the writes in turn, and adds to the trail those that change something.
 #[tactic(auto, using(crate::proofs::Trailing::none_made, crate::proofs::Trailing::more_made))]
 fn make_all(
     facts: &mut IndexedFacts,

@@ -16,14 +16,14 @@ pub const UNKNOWN: u16 = 101;
 /// The relation that says for which values a mapping is to be repaired.
 pub const FIX: u16 = 102;
 
-/// That the new unknown of this number is wanted. It is refused only for want of memory.
+/// That the new unknown of this number is wanted.
 pub fn wanted(alloc: Global, number: u32) -> Result<Tuple, Memory> {
     let mut values = ValueList::new(alloc);
     values.push(Value::Int(i64::from(number)))?;
     Tuple::new(alloc, WANT, values)
 }
 
-/// That the new unknown of this number is this value. It is refused only for want of memory.
+/// That the new unknown of this number is this value.
 pub fn found_as(alloc: Global, number: u32, value: Value) -> Result<Tuple, Memory> {
     let mut values = ValueList::new(alloc);
     values.push(Value::Int(i64::from(number)))?;
@@ -31,7 +31,7 @@ pub fn found_as(alloc: Global, number: u32, value: Value) -> Result<Tuple, Memor
     Tuple::new(alloc, UNKNOWN, values)
 }
 
-/// That a mapping is to be repaired for these values. It is refused only for want of memory.
+/// That a mapping is to be repaired for these values.
 pub fn to_fix(alloc: Global, values: ValueList) -> Result<Tuple, Memory> {
     let mut values = values;
     if values.is_empty() {
@@ -40,7 +40,7 @@ pub fn to_fix(alloc: Global, values: ValueList) -> Result<Tuple, Memory> {
     Tuple::new(alloc, FIX, values)
 }
 
-/// How many new unknowns the update has. It takes no memory.
+/// How many new unknowns the update has.
 pub fn news_of(deed: &Deed) -> u32 {
     match deed {
         Deed::Insert(tuples) => news_among(tuples.as_slice()),
@@ -72,7 +72,7 @@ fn news_in(tuple: &SpelledTuple) -> u32 {
     most
 }
 
-/// The hidden mapping that draws new unknowns, `_new: _want(n) -> _unknown(n, u)`. It is refused only for want of memory.
+/// The hidden mapping that draws new unknowns, `_new: _want(n) -> _unknown(n, u)`.
 pub fn drawing_mapping(alloc: Global) -> Result<Mapping, Memory> {
     let mut left = AtomList::new(alloc);
     left.push(atom_of(alloc, WANT, &[0])?)?;
@@ -106,7 +106,7 @@ fn atom_of(alloc: Global, relation: u16, variables: &[u16]) -> Result<Atom, Memo
     Ok(Atom { relation, terms })
 }
 
-/// The variables of a mapping that stand on both sides, in the order of their first places. It is refused only for want of memory.
+/// The variables of a mapping that stand on both sides, in the order of their first places.
 pub fn shared_variables(alloc: Global, mapping: &Mapping) -> Result<Vec<u16>, Memory> {
     let mut shared = Vec::new(alloc);
     for variable in 0..mapping.universal {
@@ -131,7 +131,7 @@ fn has_variable(atom: &Atom, variable: u16) -> bool {
         .any(|term| matches!(term, Term::Var(v) if *v == variable))
 }
 
-/// The hidden mapping by which a mapping is repaired, `_fix_m: _fix_m(x, ..) -> RIGHT`. It is refused only for want of memory.
+/// The hidden mapping by which a mapping is repaired, `_fix_m: _fix_m(x, ..) -> RIGHT`.
 pub fn fixing_mapping(alloc: Global, mapping: &Mapping) -> Result<Mapping, Memory> {
     let mut numbers = shared_variables(alloc, mapping)?;
     let shared = small(numbers.len());

@@ -5,8 +5,8 @@ use base_types::{Binding, Facts, Mapping, Memory, TryCopy, TupleList, Value};
 use chase_match::first_match;
 use std::alloc::Global;
 
-/// The least image of the mapping's left side if the variables that stand on both sides have these values; none if there is
-/// no match. It is refused only for want of memory.
+/// The least image of the mapping's left side if the variables that stand on both sides have these values; none if there is no
+/// match.
 pub fn image_for<F: Facts>(
     alloc: Global,
     mapping: &Mapping,

@@ -21,14 +21,14 @@ pub struct Touched {
 }
 
 impl Touched {
-    /// None was touched. It takes no memory.
+    /// None was touched.
     pub fn new(alloc: Global) -> Touched {
         Touched {
             tuples: BTreeMap::new(alloc),
         }
     }
 
-    /// Adds writes each of which changed something. It is refused only for want of memory.
+    /// Adds writes each of which changed something.
     pub fn made(&mut self, writes: &[Write]) -> Result<(), Memory> {
         for write in writes {
             match write {
@@ -39,7 +39,7 @@ impl Touched {
         Ok(())
     }
 
-    /// Adds writes that are to be made over the tuples. It is refused only for want of memory.
+    /// Adds writes that are to be made over the tuples.
     pub fn to_make(&mut self, writes: &[Write], facts: &IndexedFacts) -> Result<(), Memory> {
         for write in writes {
             match write {
@@ -50,7 +50,7 @@ impl Touched {
         Ok(())
     }
 
-    /// What came and went, by names, in the order of the tuples. It is refused only for want of memory.
+    /// What came and went, by names, in the order of the tuples.
     pub fn net(&self, alloc: Global, names: &Names) -> Result<WriteList, Memory> {
         let mut net = WriteList::new(alloc);
         for (tuple, touch) in &self.tuples {

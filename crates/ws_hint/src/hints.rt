@@ -20,7 +20,7 @@ pub struct Hints {
 }
 
 impl Hints {
-    /// Nothing was looked at yet. It takes no memory.
+    /// Nothing was looked at yet.
     pub fn new(alloc: Global) -> Hints {
         Hints {
             alloc,

@@ -7,7 +7,7 @@ use ws_print::Text;
 use ws_space::Space;
 use ws_state::{MovedList, Standing};
 
-/// How many of the tuples that came were inserted by no row, by relation. It is refused only for want of memory.
+/// How many of the tuples that came were inserted by no row, by relation.
 pub(crate) fn added_text(
     alloc: Global,
     space: &Space,

@@ -11,7 +11,7 @@ use ws_space::Space;
 // How many groups of spellings are told of a column.
 const MOST: usize = 3;
 
-/// Adds a hint for each column of a relation that has such spellings. It is refused only for want of memory.
+/// Adds a hint for each column of a relation that has such spellings.
 pub(crate) fn add_alike(
     alloc: Global,
     space: &Space,

@@ -17,7 +17,7 @@ pub(crate) enum Row {
     Within(Tuple),
 }
 
-/// How the row stands to what is there now. It is refused only for want of memory.
+/// How the row stands to what is there now.
 pub(crate) fn row_of(alloc: Global, space: &Space, fact: &NewFact) -> Result<Row, Memory> {
     let Some(known) = known_fact(alloc, fact)? else {
         return Ok(Row::New);

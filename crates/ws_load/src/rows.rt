@@ -23,7 +23,7 @@ pub(crate) struct Inserted {
 }
 
 impl Inserted {
-    /// No row was inserted yet. It takes no memory.
+    /// No row was inserted yet.
     pub fn new(alloc: Global) -> Inserted {
         Inserted {
             done: Vec::new(alloc),
@@ -33,7 +33,7 @@ impl Inserted {
         }
     }
 
-    /// Declares a relation. It is refused only for want of memory.
+    /// Declares a relation.
     pub fn declare(
         &mut self,
         alloc: Global,

@@ -6,7 +6,7 @@ use std::collections::BTreeSet;
 use ws_space::{Space, unknown_of};
 use ws_written::Unknown;
 
-/// The unknowns that stand, in the order of their names. It is refused only for want of memory.
+/// The unknowns that stand, in the order of their names.
 pub(crate) fn standing_unknowns(alloc: Global, space: &Space) -> Result<Vec<Unknown>, Memory> {
     let mut set = BTreeSet::new(alloc);
     for place in 0..space.relations.len() {

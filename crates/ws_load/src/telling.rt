@@ -49,7 +49,7 @@ pub(crate) fn line_of(alloc: Global, load: &Load) -> Result<String, AllocError> 
 }
 
 impl<'a> Loading<'a> {
-    /// What is told if nothing is to be recorded. It is refused only for want of memory.
+    /// What is told if nothing is to be recorded.
     pub fn nothing(&self, alloc: Global, line: String) -> Result<Report, AllocError> {
         let did = if 0 < self.inserted.there {
             "there already"
@@ -74,8 +74,7 @@ impl<'a> Loading<'a> {
         })
     }
 
-    /// What is told of the updates, which begin at this place of the order, and of what they did. It is refused only for want
-    /// of memory.
+    /// What is told of the updates, which begin at this place of the order, and of what they did.
     pub fn report(
         &self,
         alloc: Global,

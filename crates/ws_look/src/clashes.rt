@@ -15,7 +15,7 @@ pub(crate) struct Clashes {
     pub groups: Vec<Vec<String>>,
 }
 
-/// The clashes of the keys, relation by relation; those without a clash are left out. It is refused only for want of memory.
+/// The clashes of the keys, relation by relation; those without a clash are left out.
 pub(crate) fn clashes_of(alloc: Global, space: &Space) -> Result<Vec<Clashes>, Memory> {
     let mut all = Vec::new(alloc);
     for (number, relation) in space.relations.iter().enumerate() {
@@ -56,7 +56,7 @@ fn clashing(
     Ok(clashing)
 }
 
-/// The tuples, as commands take them. It is refused only for want of memory.
+/// The tuples, as commands take them.
 pub(crate) fn inner_texts(
     alloc: Global,
     space: &Space,

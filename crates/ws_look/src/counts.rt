@@ -31,7 +31,7 @@ impl Counts {
     }
 }
 
-/// What is here, counted. It is refused only for want of memory.
+/// What is here, counted.
 pub(crate) fn counted(alloc: Global, space: &Space) -> Result<Counts, Memory> {
     Ok(Counts {
         unknowns: count_unknowns(alloc, space)?,

@@ -22,7 +22,6 @@ pub(crate) struct Entry<'a> {
 }
 
 /// The first lines of a record, so many at most; how an update stands is looked up one by one if it was not found for all before.
-/// It is refused only for want of memory.
 pub(crate) fn entries_of<'a>(
     alloc: Global,
     space: &Space,

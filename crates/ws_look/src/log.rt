@@ -14,7 +14,7 @@ pub(crate) const MOST: usize = 6;
 
 pub(crate) const FIRST: usize = 3;
 
-/// The records, or the last so many. It is refused only for want of memory.
+/// The records, or the last so many.
 pub(crate) fn log(
     alloc: Global,
     space: &Space,
@@ -51,7 +51,7 @@ fn add_folded(alloc: Global, lines: &mut Lines, space: &Space, records: &[Record
 }
 
 /// The records after the one of this number, or the first so many of them. It is refused if that record was folded or is not
-/// there, or for want of memory.
+/// there.
 pub(crate) fn log_since(
     alloc: Global,
     space: &Space,

@@ -8,7 +8,7 @@ use ws_json::{Items, Object};
 use ws_reply::{number_of, object_of};
 use ws_space::{Recorded, Space, Statuses};
 
-/// The lines of the records, each an object. It is refused only for want of memory.
+/// The lines of the records, each an object.
 pub(crate) fn entry_objects(
     alloc: Global,
     space: &Space,
@@ -66,7 +66,7 @@ fn add_entry(object: &mut Object, entry: &Entry<'_>, has_comment: bool) {
     }
 }
 
-/// The records, each an object with its first lines. It is refused only for want of memory.
+/// The records, each an object with its first lines.
 pub(crate) fn record_objects(
     alloc: Global,
     space: &Space,

@@ -29,8 +29,7 @@ struct Wrote {
     text: String,
 }
 
-/// The update of this number: its line, its answers, how it stands, and what it wrote. It is refused if there is none, or for
-/// want of memory.
+/// The update of this number: its line, its answers, how it stands, and what it wrote. It is refused if there is none.
 pub(crate) fn log_one(
     alloc: Global,
     space: &mut Space,

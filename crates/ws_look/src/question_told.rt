@@ -9,7 +9,7 @@ use ws_question::{AskedNow, question_lines, question_object};
 use ws_reply::object_of;
 use ws_space::Space;
 
-/// The updates with their questions. It is refused only for want of memory.
+/// The updates with their questions.
 pub(crate) fn lines(
     alloc: Global,
     space: &Space,
@@ -69,7 +69,7 @@ fn add_asked(
     Ok(())
 }
 
-/// The updates with their questions, each an object. It is refused only for want of memory.
+/// The updates with their questions, each an object.
 pub(crate) fn objects(
     alloc: Global,
     space: &Space,

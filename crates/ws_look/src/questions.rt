@@ -62,7 +62,7 @@ pub(crate) struct Telling<'a> {
 }
 
 /// The updates that wait, each with its question, or why it waits. The questions count as shown. It is refused if an update that
-/// was asked for does not wait, or for want of memory.
+/// was asked for does not wait.
 pub(crate) fn questions(
     alloc: Global,
     space: &mut Space,

@@ -7,7 +7,7 @@ use ws_print::{Text, add_cell};
 use ws_space::{Space, has_unknown};
 use ws_written::{Atom, Term, Value as Said};
 
-/// The tuples, within and in order, that match the atom. It is refused only for want of memory.
+/// The tuples, within and in order, that match the atom.
 pub(crate) fn matched(alloc: Global, space: &Space, atom: &Atom) -> Result<Vec<Tuple>, Memory> {
     let mut columns = Vec::new(alloc);
     for term in &atom.terms {
@@ -68,7 +68,7 @@ pub(crate) fn uncertain(tuples: Vec<Tuple>, paging: &Paging) -> Vec<Tuple> {
     tuples
 }
 
-/// Those of the tuples that have the text of `--like` in a cell, if there is one. It is refused only for want of memory.
+/// Those of the tuples that have the text of `--like` in a cell, if there is one.
 pub(crate) fn alike(
     alloc: Global,
     space: &Space,

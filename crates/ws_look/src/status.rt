@@ -14,7 +14,7 @@ use ws_written::Relation;
 // How many of those that wait are told.
 const WAITING: usize = 10;
 
-/// What is here: relations, mappings, what waits, the last update and the last record. It is refused only for want of memory.
+/// What is here: relations, mappings, what waits, the last update and the last record.
 pub(crate) fn status(alloc: Global, space: &Space, context: &Context<'_>) -> Result<Reply, Memory> {
     let counts = counted(alloc, space)?;
     reply(alloc, space, context, &counts)

@@ -10,7 +10,7 @@ use ws_reply::{Context, column_items, number_of, object_of};
 use ws_space::Space;
 use ws_written::Relation;
 
-/// What is here. It is refused only for want of memory.
+/// What is here.
 pub(crate) fn status_object(
     alloc: Global,
     space: &Space,

@@ -10,7 +10,7 @@ use ws_reply::{column_items, number_items, number_of, object_of, row_items};
 use ws_space::Space;
 use ws_written::Column;
 
-/// The tables, parted by empty lines. It is refused only for want of memory.
+/// The tables, parted by empty lines.
 pub(crate) fn lines(
     alloc: Global,
     space: &Space,
@@ -100,7 +100,7 @@ fn column_name(alloc: Global, column: &Column) -> Result<String, AllocError> {
     name.done()
 }
 
-/// The tables, each an object. It is refused only for want of memory.
+/// The tables, each an object.
 pub(crate) fn objects(
     alloc: Global,
     tables: &[Told<'_>],

@@ -21,7 +21,7 @@ pub(crate) struct Told<'a> {
     pub is_whole: bool,
 }
 
-/// The tables, or the rows that the atoms match; of each those that are meant. It is refused only for want of memory.
+/// The tables, or the rows that the atoms match; of each those that are meant.
 pub(crate) fn show(
     alloc: Global,
     space: &Space,

@@ -30,7 +30,7 @@ pub(crate) struct Told {
     pub first: Vec<Lack>,
 }
 
-/// The violations of a mapping, or of all and the clashes of keys. It is refused only for want of memory.
+/// The violations of a mapping, or of all and the clashes of keys.
 pub(crate) fn violations(
     alloc: Global,
     space: &Space,

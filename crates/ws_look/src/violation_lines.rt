@@ -7,7 +7,7 @@ use std::alloc::{AllocError, Global};
 use ws_print::{Lines, Text, add_count, add_form};
 use ws_space::Space;
 
-/// The mappings with their violations, and the clashes of keys. It is refused only for want of memory.
+/// The mappings with their violations, and the clashes of keys.
 pub(crate) fn lines(
     alloc: Global,
     space: &Space,
@@ -101,7 +101,7 @@ fn key_line(alloc: Global, space: &Space, clashes: &Clashes) -> Result<String, M
     Ok(line.done()?)
 }
 
-/// The relation with its columns. It is refused only for want of memory.
+/// The relation with its columns.
 pub(crate) fn form_of(alloc: Global, space: &Space, clashes: &Clashes) -> Result<String, Memory> {
     let mut form = Text::new(alloc);
     if let Some(relation) = space.relations.get(clashes.relation) {

@@ -4,7 +4,7 @@ use base_types::Memory;
 use std::alloc::Global;
 use ws_space::{Space, speaks_of};
 
-/// The numbers, rising, of those that have tuples of the relation. It is refused only for want of memory.
+/// The numbers, rising, of those that have tuples of the relation.
 pub(crate) fn waiting_for(alloc: Global, space: &Space, relation: u32) -> Result<Vec<u32>, Memory> {
     let mut numbers = Vec::new(alloc);
     for waiting in space.state.waiting().as_slice() {

@@ -20,7 +20,7 @@ pub struct Cause {
 }
 
 impl Cause {
-    /// Whether it is the same cause. It takes no memory.
+    /// Whether it is the same cause.
     pub fn is(&self, other: &Cause) -> bool
         ensures same { result ≡ same_cause (cause_of self.now) (cause_of other.now) }
     {

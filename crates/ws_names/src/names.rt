@@ -21,7 +21,7 @@ pub struct Pair {
 }
 
 impl Names {
-    /// No null has a name. It takes no memory.
+    /// No null has a name.
     pub fn new(alloc: Global) -> Names {
         Names {
             drawn: List::new(alloc),
@@ -40,7 +40,7 @@ impl Names {
         self.drawn.as_slice()
     }
 
-    /// Gives a null, which has none, a name that no other has. It is refused only for want of memory.
+    /// Gives a null, which has none, a name that no other has.
     pub fn give(&mut self, null: Null, name: Null) -> Result<(), Memory> {
         self.drawn.reserve(1)?;
         if self.names.insert(null, name).is_err() {
@@ -54,7 +54,7 @@ impl Names {
         Ok(())
     }
 
-    /// Takes the names back but for the first so many. It takes no memory.
+    /// Takes the names back but for the first so many.
     pub fn keep(&mut self, count: usize) {
         for _ in count..self.drawn.len() {
             if let Some(pair) = self.drawn.pop() {
@@ -64,7 +64,7 @@ impl Names {
         }
     }
 
-    /// The name of a null; a null without one is called as it is. It takes no memory.
+    /// The name of a null; a null without one is called as it is.
     pub fn name_of(&self, null: Null) -> Null {
         match self.names.get(&null) {
             Some(name) => *name,
@@ -72,12 +72,12 @@ impl Names {
         }
     }
 
-    /// The null of that name; None if none has it. It takes no memory.
+    /// The null of that name; None if none has it.
     pub fn null_called(&self, name: Null) -> Option<Null> {
         self.nulls.get(&name).copied()
     }
 
-    /// The value by names. It is refused only for want of memory.
+    /// The value by names.
     pub fn value(&self, alloc: Global, value: &Value) -> Result<Value, Memory> {
         match value {
             Value::Null(null) => Ok(Value::Null(self.name_of(*null))),
@@ -86,7 +86,7 @@ impl Names {
         }
     }
 
-    /// The tuple by names. It is refused only for want of memory.
+    /// The tuple by names.
     pub fn tuple(&self, alloc: Global, tuple: &Tuple) -> Result<Tuple, Memory> {
         if !has_null(tuple) {
             return tuple.share();
@@ -99,7 +99,7 @@ impl Names {
         Tuple::new(alloc, tuple.relation, values)
     }
 
-    /// The tuples by names. It is refused only for want of memory.
+    /// The tuples by names.
     pub fn tuples(&self, alloc: Global, tuples: &[Tuple]) -> Result<TupleList, Memory> {
         let mut named = TupleList::new(alloc);
         named.reserve(tuples.len())?;

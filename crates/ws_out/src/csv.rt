@@ -8,7 +8,7 @@ use ws_print::{Lines, Text, add_value};
 use ws_space::Space;
 use ws_written::{Fact, Relation, Value};
 
-/// The lines of a relation: its columns, and its rows. It is refused only for want of memory.
+/// The lines of a relation: its columns, and its rows.
 pub(crate) fn csv_lines(
     alloc: Global,
     space: &Space,

@@ -5,8 +5,7 @@ use ws_draw::{Link, graph_lines, link_of};
 use ws_fault::Refusal;
 use ws_space::Space;
 
-/// The mappings that are not gone: those in force in their order, and then those that are only proposed. It is refused only
-/// for want of memory.
+/// The mappings that are not gone: those in force in their order, and then those that are only proposed.
 pub(crate) fn mappings_of(alloc: Global, space: &Space) -> Result<Vec<u16>, AllocError> {
     let mut mappings = Vec::new(alloc);
     for mapping in space.state.in_force() {
@@ -26,7 +25,7 @@ pub(crate) fn is_open(space: &Space, mapping: u16) -> bool {
     !space.state.in_force().contains(&mapping)
 }
 
-/// The mappings as they are drawn. It is refused only for want of memory.
+/// The mappings as they are drawn.
 pub(crate) fn links_of(alloc: Global, space: &Space) -> Result<Vec<Link<'_>>, AllocError> {
     let mut links = Vec::new(alloc);
     for mapping in mappings_of(alloc, space)? {
@@ -37,7 +36,7 @@ pub(crate) fn links_of(alloc: Global, space: &Space) -> Result<Vec<Link<'_>>, Al
     Ok(links)
 }
 
-/// The lines of the graph of relations and mappings, in DOT. It is refused only for want of memory.
+/// The lines of the graph of relations and mappings, in DOT.
 pub fn graph(alloc: Global, space: &Space) -> Result<Vec<String>, Refusal> {
     let links = links_of(alloc, space)?;
     Ok(graph_lines(alloc, space.relations.as_slice(), links.as_slice())?)

@@ -16,7 +16,7 @@ const HEADER: &str =
      <th scope=\"col\">When</th><th scope=\"col\">Who</th><th scope=\"col\">Update</th>\
      <th scope=\"col\">Command</th><th scope=\"col\">State</th></tr>";
 
-/// Adds the log, which ends the page. It is refused only for want of memory.
+/// Adds the log, which ends the page.
 pub(crate) fn add_log(document: &mut Document, space: &Space) -> Result<(), Memory> {
     document.say(HEADER);
     let statuses = Statuses::of(document.alloc, &space.state)?;

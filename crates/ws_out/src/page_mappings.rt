@@ -7,7 +7,7 @@ use std::alloc::{AllocError, Global};
 use ws_draw::svg_of;
 use ws_space::Space;
 
-/// Adds the mappings. It is refused only for want of memory.
+/// Adds the mappings.
 pub(crate) fn add_mappings(document: &mut Document, space: &Space) -> Result<(), Memory> {
     document.say("<h2 id=\"mappings\">Mappings</h2>");
     let mappings = mappings_of(document.alloc, space)?;

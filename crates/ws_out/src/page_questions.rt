@@ -10,7 +10,7 @@ use ws_space::Space;
 const HEADER: &str =
     "<table><tr><th scope=\"col\">Candidate</th><th scope=\"col\">Command</th></tr>";
 
-/// Adds each update that waits, and its question. It is refused only for want of memory.
+/// Adds each update that waits, and its question.
 pub(crate) fn add_questions(document: &mut Document, space: &mut Space) -> Result<(), Memory> {
     document.say("<h2 id=\"questions\">Questions</h2>");
     let numbers = space.waiting_numbers(document.alloc)?;

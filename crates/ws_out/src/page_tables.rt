@@ -9,7 +9,7 @@ use ws_print::{Text, add_count, add_value};
 use ws_space::Space;
 use ws_written::{Column, Fact, Relation, Value};
 
-/// Adds each table. It is refused only for want of memory.
+/// Adds each table.
 pub(crate) fn add_tables(document: &mut Document, space: &Space) -> Result<(), Memory> {
     document.say("<h2 id=\"tables\">Tables</h2>");
     for (place, relation) in space.relations.iter().enumerate() {

@@ -19,7 +19,7 @@ const HEADER: &str = "<table><tr><th scope=\"col\">Unknown</th><th scope=\"col\"
 /// The unknowns that stand, each with the first tuples that have it, as commands take them.
 pub(crate) type Unknowns = BTreeMap<Unknown, Vec<String>>;
 
-/// The unknowns that stand. It is refused only for want of memory.
+/// The unknowns that stand.
 pub(crate) fn unknowns_of(alloc: Global, space: &Space) -> Result<Unknowns, Memory> {
     let mut unknowns = BTreeMap::new(alloc);
     for place in 0..space.relations.len() {

@@ -40,14 +40,14 @@ impl Document {
         self.lines.made(line);
     }
 
-    /// The text as it is shown by HTML. It is refused only for want of memory.
+    /// The text as it is shown by HTML.
     pub fn shown(&self, text: &str) -> Result<String, AllocError> {
         let mut out = Text::new(self.alloc);
         add_html(&mut out, text);
         out.done()
     }
 
-    /// The text as it is shown by HTML, as code. It is refused only for want of memory.
+    /// The text as it is shown by HTML, as code.
     pub fn code(&self, text: &str) -> Result<String, AllocError> {
         let mut out = Text::from_str(self.alloc, "<code>");
         add_html(&mut out, text);
@@ -64,7 +64,7 @@ fn name_of(file: &str) -> &str {
     }
 }
 
-/// The lines of the page. It is refused only for want of memory.
+/// The lines of the page.
 pub fn page(
     alloc: Global,
     space: &mut Space,

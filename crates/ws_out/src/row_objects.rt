@@ -8,7 +8,7 @@ use ws_print::{Lines, Text, add_unknown};
 use ws_space::Space;
 use ws_written::{Fact, Relation, Value};
 
-/// Adds an object for each row of a relation. It is refused only for want of memory.
+/// Adds an object for each row of a relation.
 pub(crate) fn add_objects(
     alloc: Global,
     lines: &mut Lines,

@@ -19,7 +19,7 @@ struct Script {
     unknowns: Lines,
 }
 
-/// The statements for these relations, by their numbers. It is refused only for want of memory.
+/// The statements for these relations, by their numbers.
 pub(crate) fn sql_lines(
     alloc: Global,
     space: &Space,

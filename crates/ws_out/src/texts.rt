@@ -6,7 +6,7 @@ use std::alloc::{AllocError, Global};
 use ws_space::Space;
 use ws_written::Fact;
 
-/// The tuples of a relation as they are said, in order. It is refused only for want of memory.
+/// The tuples of a relation as they are said, in order.
 pub(crate) fn facts_of(alloc: Global, space: &Space, relation: u32) -> Result<Vec<Fact>, Memory> {
     let rows = space.rows(alloc, relation)?;
     let mut facts = Vec::new(alloc);
@@ -21,7 +21,7 @@ pub(crate) fn relation_at(place: usize) -> u32 {
     u32::try_from(place).unwrap_or(u32::MAX)
 }
 
-/// A text between quotes, as JSON has it. It is refused only for want of memory.
+/// A text between quotes, as JSON has it.
 pub(crate) fn json_text(alloc: Global, text: &str) -> Result<String, AllocError> {
     Value::try_from_str(alloc, text)?.to_string(alloc)
 }

@@ -47,7 +47,7 @@ impl AskedNow {
     }
 }
 
-/// The question of the update of this number, by names. It is refused only for want of memory.
+/// The question of the update of this number, by names.
 pub fn asked_now(
     alloc: Global,
     space: &Space,

@@ -20,8 +20,7 @@ pub(crate) struct Candidates {
     pub fit: usize,
 }
 
-/// The candidates that have the text in them, capitals apart; all if there is none. At most `limit` are shown. It is refused
-/// only for want of memory.
+/// The candidates that have the text in them, capitals apart; all if there is none. At most `limit` are shown.
 pub(crate) fn candidates_of(
     alloc: Global,
     space: &Space,

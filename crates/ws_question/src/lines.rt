@@ -11,7 +11,7 @@ use ws_space::Space;
 // How much of what the update did before it asked is told.
 const SO_FAR: usize = 6;
 
-/// The line that asks. It is refused only for want of memory.
+/// The line that asks.
 pub fn question_line(alloc: Global, space: &Space, asked: &AskedNow) -> Result<String, Memory> {
     let name = match asked.rule(space) {
         Some(rule) => rule.name.as_str(),
@@ -26,8 +26,7 @@ pub fn question_line(alloc: Global, space: &Space, asked: &AskedNow) -> Result<S
     }
 }
 
-/// The lines of the question: what it asks, at most `limit` of the candidates that have the text `like` in them, and why it
-/// asks. It is refused only for want of memory.
+/// The lines of the question: what it asks, at most `limit` of the candidates that have the text `like` in them, and why it asks.
 pub fn question_lines(
     alloc: Global,
     space: &Space,

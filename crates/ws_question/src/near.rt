@@ -16,8 +16,8 @@ const TOLD: usize = 3;
 // How many tuples that share a value are looked at.
 const LOOKED_AT: usize = 200;
 
-/// The tuples that share most values with this one, as commands take them, three at most; if none shares one, those whose
-/// first value is spelled like its own. It is refused only for want of memory.
+/// The tuples that share most values with this one, as commands take them, three at most; if none shares one, those whose first
+/// value is spelled like its own.
 pub fn near_texts(alloc: Global, space: &Space, fact: &Fact) -> Result<Vec<String>, Memory> {
     let mut counts: BTreeMap<Tuple, usize> = BTreeMap::new(alloc);
     count_all(alloc, &mut counts, space, fact)?;

@@ -4,7 +4,7 @@ use crate::asked::AskedNow;
 use base_types::Memory;
 use std::alloc::Global;
 
-/// The commands that answer it, show it again, and take its update back. It is refused only for want of memory.
+/// The commands that answer it, show it again, and take its update back.
 pub fn question_next(alloc: Global, asked: &AskedNow) -> Result<Vec<String>, Memory> {
     let number = asked.number;
     let mut next = Vec::new(alloc);

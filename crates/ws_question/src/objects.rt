@@ -8,8 +8,7 @@ use std::alloc::Global;
 use ws_json::{Items, Object};
 use ws_space::Space;
 
-/// The object of the question, with at most `limit` of the candidates that have the text `like` in them. It is refused only
-/// for want of memory.
+/// The object of the question, with at most `limit` of the candidates that have the text `like` in them.
 pub fn question_object(
     alloc: Global,
     space: &Space,

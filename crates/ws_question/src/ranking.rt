@@ -5,9 +5,8 @@ use std::alloc::Global;
 use std::collections::BTreeSet;
 use ws_run::Question;
 
-/// The places of the candidates: those first that share most values with the image and with what the update did before it
-/// asked, those of the wanted tuple apart, and then by number. Of a question that asks what goes they are by number. It is
-/// refused only for want of memory.
+/// The places of the candidates: those first that share most values with the image and with what the update did before it asked,
+/// those of the wanted tuple apart, and then by number. Of a question that asks what goes they are by number.
 pub(crate) fn ranked(alloc: Global, question: &Question) -> Result<Vec<usize>, Memory> {
     let known = known_values(alloc, question)?;
     let counts = counts_of(alloc, question, &known)?;

@@ -22,7 +22,7 @@ pub struct Shown {
 }
 
 impl Shown {
-    /// No question was shown. It takes no memory.
+    /// No question was shown.
     pub fn new(alloc: Global) -> Shown {
         Shown {
             alloc,
@@ -30,7 +30,7 @@ impl Shown {
         }
     }
 
-    /// The question is shown. It is refused only for want of memory.
+    /// The question is shown.
     pub fn put(&mut self, asked: &AskedNow) -> Result<(), Memory> {
         let seen = Seen {
             is_positive: asked.question.is_positive,

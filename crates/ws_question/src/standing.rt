@@ -5,7 +5,7 @@ use ws_fault::{Fault, Refusal, Status as Code};
 use ws_space::Space;
 use ws_state::Status;
 
-/// How the update of this number stands. It is refused if there is none, or for want of memory.
+/// How the update of this number stands. It is refused if there is none.
 pub fn status_of(alloc: Global, space: &Space, number: u32) -> Result<Status, Refusal> {
     if let Some(status) = space.state.status(number) {
         return Ok(status);

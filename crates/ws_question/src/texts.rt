@@ -5,7 +5,7 @@ use std::alloc::Global;
 use ws_print::{Text, add_count, add_fact, add_unknown};
 use ws_space::{Space, unknown_of};
 
-/// A tuple by names, as a command takes it. It is refused only for want of memory.
+/// A tuple by names, as a command takes it.
 pub fn fact_text(alloc: Global, space: &Space, tuple: &Tuple) -> Result<String, Memory> {
     let mut text = Text::new(alloc);
     add_fact(
@@ -16,7 +16,7 @@ pub fn fact_text(alloc: Global, space: &Space, tuple: &Tuple) -> Result<String, 
     Ok(text.done()?)
 }
 
-/// A tuple that came or went, after the one of two words that says so. It is refused only for want of memory.
+/// A tuple that came or went, after the one of two words that says so.
 pub(crate) fn write_text(
     alloc: Global,
     space: &Space,
@@ -32,7 +32,7 @@ pub(crate) fn write_text(
     Ok(format!(in alloc; "{word}{text}")?)
 }
 
-/// A tuple within, as a command takes it. It is refused only for want of memory.
+/// A tuple within, as a command takes it.
 pub fn inner_text(alloc: Global, space: &Space, tuple: &Tuple) -> Result<String, Memory> {
     let mut text = Text::new(alloc);
     add_fact(
@@ -43,21 +43,21 @@ pub fn inner_text(alloc: Global, space: &Space, tuple: &Tuple) -> Result<String,
     Ok(text.done()?)
 }
 
-/// The name of an unknown. It is refused only for want of memory.
+/// The name of an unknown.
 pub fn unknown_text(alloc: Global, name: Null) -> Result<String, Memory> {
     let mut text = Text::new(alloc);
     add_unknown(&mut text, unknown_of(name));
     Ok(text.done()?)
 }
 
-/// A count and its noun. It is refused only for want of memory.
+/// A count and its noun.
 pub fn count_text(alloc: Global, count: usize, noun: &str) -> Result<String, Memory> {
     let mut text = Text::new(alloc);
     add_count(&mut text, count, noun);
     Ok(text.done()?)
 }
 
-/// The tuples by names, between commas. It is refused only for want of memory.
+/// The tuples by names, between commas.
 pub(crate) fn facts_text(alloc: Global, space: &Space, tuples: &[Tuple]) -> Result<String, Memory> {
     let mut text = Text::new(alloc);
     for tuple in tuples {

@@ -24,7 +24,7 @@ impl Done {
         }
     }
 
-    /// A change that has no line. It takes no memory.
+    /// A change that has no line.
     pub fn unrecorded(alloc: Global, report: Report) -> Done {
         Done {
             report,
@@ -32,7 +32,7 @@ impl Done {
         }
     }
 
-    /// A change that changes nothing, for this reason. It takes no memory.
+    /// A change that changes nothing, for this reason.
     pub fn nothing(alloc: Global, did: &'static str, line: String) -> Done {
         Done::unrecorded(alloc, Report::of(alloc, Status::Nothing, did, line))
     }

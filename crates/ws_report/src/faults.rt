@@ -3,7 +3,7 @@
 use std::alloc::{AllocError, Global};
 use ws_fault::{Fault, Refusal, Status};
 
-/// A fault of this status; an empty hint is none. It is refused only for want of memory.
+/// A fault of this status; an empty hint is none.
 fn fault(alloc: Global, status: Status, words: &str, hint: &str) -> Result<Fault, AllocError> {
     let hint = if hint.is_empty() {
         None
@@ -19,12 +19,12 @@ fn fault(alloc: Global, status: Status, words: &str, hint: &str) -> Result<Fault
     })
 }
 
-/// That the change does not fit what is there; an empty hint is none. It is refused only for want of memory.
+/// That the change does not fit what is there; an empty hint is none.
 pub(crate) fn refused(alloc: Global, words: &str, hint: &str) -> Result<Fault, AllocError> {
     fault(alloc, Status::Refused, words, hint)
 }
 
-/// That the steps did not suffice; an empty hint is none. It is refused only for want of memory.
+/// That the steps did not suffice; an empty hint is none.
 pub fn spent(alloc: Global, words: &str, hint: &str) -> Result<Fault, AllocError> {
     fault(alloc, Status::Spent, words, hint)
 }

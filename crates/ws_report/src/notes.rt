@@ -13,7 +13,7 @@ pub struct Note {
 }
 
 impl Note {
-    /// A hint that proposes no command. It takes no memory.
+    /// A hint that proposes no command.
     pub fn of(alloc: Global, words: String) -> Note {
         Note {
             words,

@@ -52,12 +52,12 @@ pub struct Report {
 }
 
 impl Report {
-    /// That the line did this, and nothing else. It takes no memory.
+    /// That the line did this, and nothing else.
     pub fn of(alloc: Global, status: Status, did: &'static str, line: String) -> Report {
         Report::with_effect(alloc, status, did, line, no_effect(alloc))
     }
 
-    /// That the line did this, with this effect. It takes no memory.
+    /// That the line did this, with this effect.
     pub fn with_effect(
         alloc: Global,
         status: Status,
@@ -81,7 +81,7 @@ impl Report {
         }
     }
 
-    /// That the update which the line did or answered asks. It takes no memory.
+    /// That the update which the line did or answered asks.
     pub fn asking(
         alloc: Global,
         status: Status,
@@ -106,7 +106,7 @@ impl Report {
     }
 }
 
-/// Nothing came, went or was filled. It takes no memory.
+/// Nothing came, went or was filled.
 pub fn no_effect(alloc: Global) -> Effect {
     Effect {
         came: MovedList::new(alloc),

@@ -89,7 +89,7 @@ fn take_line(
     }
 }
 
-/// The line as a reply tells it: of an update without its number and its budget. It is refused only for want of memory.
+/// The line as a reply tells it: of an update without its number and its budget.
 pub fn told_line(alloc: Global, space: &Space, line: &Line) -> Result<String, AllocError> {
     let mut text = Text::new(alloc);
     let relations = space.relations.as_slice();

@@ -13,7 +13,7 @@ use ws_ground::{Touched, image_for};
 use ws_lines::{Asked, Given, Source};
 use ws_names::Names;
 
-/// Which question it is. It is refused only for want of memory.
+/// Which question it is.
 pub(crate) fn asked_by(
     alloc: Global,
     setting: &Setting<'_>,
@@ -36,8 +36,7 @@ pub(crate) fn asked_by(
     }
 }
 
-/// The choice of an answer as the question takes it, if it was given to this question and fits it. It is refused only for want of
-/// memory.
+/// The choice of an answer as the question takes it, if it was given to this question and fits it.
 pub(crate) fn fitting(
     alloc: Global,
     setting: &Setting<'_>,
@@ -113,7 +112,7 @@ fn called(
     Ok(None)
 }
 
-/// The question that the program is at, by names, after so many answers. It is refused only for want of memory.
+/// The question that the program is at, by names, after so many answers.
 pub(crate) fn told(
     alloc: Global,
     over: Over<'_>,

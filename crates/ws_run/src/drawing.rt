@@ -9,8 +9,8 @@ use std::alloc::Global;
 use ws_lines::Source;
 use ws_names::{Cause, Names, give};
 
-/// Names the nulls that the last step drew, of which there were so many before it: each by the mapping, its variable, and the image
-/// of the left side. It is refused only for want of memory.
+/// Names the nulls that the last step drew, of which there were so many before it: each by the mapping, its variable, and the
+/// image of the left side.
 pub(crate) fn name_drawn(
     alloc: Global,
     setting: &Setting<'_>,

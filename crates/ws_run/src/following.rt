@@ -5,7 +5,7 @@ use base_types::{Memory, TryCopy, Tuple, Value, ValueList};
 use run_note::{Rewriting, Way};
 use std::alloc::Global;
 
-/// What these steps made of the value. It is refused only for want of memory.
+/// What these steps made of the value.
 pub fn follow(alloc: Global, steps: &[Step], value: &Value) -> Result<Value, Memory> {
     let mut now = value.copy(alloc)?;
     for step in steps {
@@ -33,7 +33,7 @@ fn follow_one(alloc: Global, step: &Step, value: Value) -> Result<Value, Memory>
     }
 }
 
-/// What the run so far made of the tuple. It is refused only for want of memory.
+/// What the run so far made of the tuple.
 pub(crate) fn followed(alloc: Global, thread: &Thread, tuple: &Tuple) -> Result<Tuple, Memory> {
     let mut values = ValueList::new(alloc);
     for value in tuple.values.as_slice() {

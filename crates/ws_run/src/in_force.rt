@@ -30,7 +30,7 @@ impl<'a> Model for InForce<'a> {
 }
 
 impl<'a> InForce<'a> {
-    /// These mappings in force. It is refused only for want of memory.
+    /// These mappings in force.
     pub fn of(alloc: Global, mappings: Mappings<'a>) -> Result<InForce<'a>, Memory>
         ensures rules { IfOk result (λ in_force. in_force ≡ mappings.entry) }
     {
@@ -38,15 +38,14 @@ impl<'a> InForce<'a> {
         Ok(InForce { mappings, touching })
     }
 
-    /// The mappings by number. It takes no memory.
+    /// The mappings by number.
     pub fn mappings(&self) -> &Mappings<'a>
         ensures rules { result.now ≡ self.now }
     {
         &self.mappings
     }
 
-    /// The tuples as an update sees them before its first write, that repairs in this direction. It is refused only for want of
-    /// memory.
+    /// The tuples as an update sees them before its first write, that repairs in this direction.
     pub(crate) fn view<'b>(
         &'b self,
         alloc: Global,

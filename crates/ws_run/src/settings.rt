@@ -22,7 +22,7 @@ pub struct Setting<'a> {
 }
 
 impl<'a> Setting<'a> {
-    /// The source of the mapping of this number. It takes no memory.
+    /// The source of the mapping of this number.
     pub fn source(&self, mapping: u16) -> Source {
         match self.sources.get(mapping as usize) {
             Some(source) => *source,

@@ -19,9 +19,9 @@ use set_facts::IndexedFacts;
 use std::alloc::Global;
 use ws_lines::Source;
 
-/// Makes one step of the program over the tuples that the view is of, with the choice if it is at a question, and tells of it. The
-/// view is of the mappings in force and in the program's direction. It sees the program's own writes, and then also those of the
-/// step. It is refused only for want of memory; the program may then be within the step.
+/// Makes one step of the program over the tuples that the view is of, with the choice if it is at a question, and tells of it.
+/// The view is of the mappings in force and in the program's direction. It sees the program's own writes, and then also those of
+/// the step. If it is refused, the program may be within the step.
 pub(crate) fn make(
     alloc: Global,
     setting: &Setting<'_>,

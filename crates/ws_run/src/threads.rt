@@ -52,7 +52,7 @@ pub struct Thread {
 }
 
 impl Thread {
-    /// A run that begins, with the update's table. It takes no memory.
+    /// A run that begins, with the update's table.
     pub fn new(alloc: Global, places: Places) -> Thread {
         Thread {
             places,

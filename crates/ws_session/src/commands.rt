@@ -23,7 +23,7 @@ pub struct Turn<'a> {
 }
 
 impl Session {
-    /// The reply to a line; None if it is blank or a comment. It is refused only for want of memory.
+    /// The reply to a line; None if it is blank or a comment.
     pub fn command(&mut self, rt: &HostRuntime, turn: &Turn<'_>) -> Result<Option<Reply>, Memory> {
         if is_blank(turn.line) {
             return Ok(None);

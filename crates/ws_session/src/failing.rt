@@ -115,13 +115,13 @@ fn damaged(alloc: Global, name: &str, damage: Damage) -> Result<String, AllocErr
     }
 }
 
-/// That a line is not UTF-8 from its byte of this number on, from 1. It is refused only for want of memory.
+/// That a line is not UTF-8 from its byte of this number on, from 1.
 pub fn not_utf8(alloc: Global, number: usize) -> Result<Fault, AllocError> {
     let words = format!(in alloc; "the line is not UTF-8, at byte {number} of it")?;
     Ok(fault(alloc, Status::Unread, words, None))
 }
 
-/// A fault of a line as a reply; in a script the line has a number. It is refused only for want of memory.
+/// A fault of a line as a reply; in a script the line has a number.
 pub fn fault_reply(
     alloc: Global,
     form: Form,

@@ -12,7 +12,7 @@ use ws_print::Lines;
 use ws_reply::{Form, Kind, Reply};
 use ws_space::Space;
 
-/// What a fold comes to: the text of the new head, unless there is nothing to fold. It is refused only for want of memory.
+/// What a fold comes to: the text of the new head, unless there is nothing to fold.
 pub(crate) fn fold_over(alloc: Global, space: &Space, form: Form) -> Result<Done, Refusal> {
     if space.state.order().len() == 0 && space.records.is_empty() {
         let did = Did {

@@ -15,8 +15,8 @@ use ws_tuples::{delete, fill, insert, replace};
 /// Does the change over the workspace, and tells of it. `past` is the workspace as it was after the record of `--at`, if that
 /// is not the last one and was not folded.
 ///
-/// It is refused if the change does not fit the workspace, if its steps do not suffice, or for want of memory. The space is
-/// then of no use if it took a line.
+/// It is refused if the change does not fit the workspace, or if its steps do not suffice. The space is then of no use if it took
+/// a line.
 pub fn change(
     alloc: Global,
     space: &mut Space,

@@ -195,7 +195,7 @@ fn makes_file(change: &Change) -> bool {
     }
 }
 
-/// The text of the head of a workspace. It is refused only for want of memory.
+/// The text of the head of a workspace.
 pub(crate) fn head_text(alloc: Global, space: &Space) -> Result<Vec<u8>, Memory> {
     let mut text = Text::new(alloc);
     add_head(&mut text, &space.head(alloc)?);

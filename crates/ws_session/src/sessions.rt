@@ -49,7 +49,7 @@ pub(crate) struct Texts {
 }
 
 impl Session {
-    /// A session that has read nothing yet. It is refused only for want of memory.
+    /// A session that has read nothing yet.
     pub fn new(alloc: Global, settings: Settings) -> Result<Session, AllocError> {
         let name = String::from_str(alloc, called(&settings, settings.path.as_str()))?;
         Ok(Session {

@@ -16,7 +16,7 @@ pub(crate) struct Changed {
 }
 
 impl Changed {
-    /// No line did anything. It takes no memory.
+    /// No line did anything.
     pub fn new(alloc: Global) -> Changed {
         Changed {
             lines: 0,
@@ -25,7 +25,7 @@ impl Changed {
         }
     }
 
-    /// Adds what updates did that came to stand. It is refused only for want of memory.
+    /// Adds what updates did that came to stand.
     pub fn add_stood(&mut self, standings: &[Standing]) -> Result<(), Memory> {
         for standing in standings {
             for step in standing.steps.as_slice() {
@@ -58,13 +58,13 @@ impl Changed {
         Ok(())
     }
 
-    /// Adds what an undo or a redo did. It is refused only for want of memory.
+    /// Adds what an undo or a redo did.
     pub fn add_replayed(&mut self, replayed: &Replayed) -> Result<(), Memory> {
         add_tables(&mut self.tables, &replayed.came)?;
         add_tables(&mut self.tables, &replayed.went)
     }
 
-    /// The numbers of the relations whose tuples are others now, rising. It is refused only for want of memory.
+    /// The numbers of the relations whose tuples are others now, rising.
     pub fn tables(&mut self, alloc: Global) -> Result<Vec<u32>, Memory> {
         self.add_written(alloc)?;
         let mut numbers = Vec::new(alloc);

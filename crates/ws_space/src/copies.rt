@@ -5,7 +5,7 @@ use std::alloc::Global;
 use ws_command::Pattern;
 use ws_written::{Atom, Fact, Rule, Term, Value};
 
-/// A copy of a value. It is refused only for want of memory.
+/// A copy of a value.
 pub fn copy_value(alloc: Global, value: &Value) -> Result<Value, Memory> {
     Ok(match value {
         Value::Number(number) => Value::Number(*number),
@@ -14,7 +14,7 @@ pub fn copy_value(alloc: Global, value: &Value) -> Result<Value, Memory> {
     })
 }
 
-/// A copy of a tuple. It is refused only for want of memory.
+/// A copy of a tuple.
 pub fn copy_fact(alloc: Global, fact: &Fact) -> Result<Fact, Memory> {
     let mut values = Vec::new(alloc);
     for value in &fact.values {
@@ -26,7 +26,7 @@ pub fn copy_fact(alloc: Global, fact: &Fact) -> Result<Fact, Memory> {
     })
 }
 
-/// The tuple that a pattern is; None if a `_` stands in it. It is refused only for want of memory.
+/// The tuple that a pattern is; None if a `_` stands in it.
 pub fn plain_fact(alloc: Global, pattern: &Pattern) -> Result<Option<Fact>, Memory> {
     let mut values = Vec::new(alloc);
     for value in &pattern.values {
@@ -41,7 +41,7 @@ pub fn plain_fact(alloc: Global, pattern: &Pattern) -> Result<Option<Fact>, Memo
     }))
 }
 
-/// A copy of a mapping. It is refused only for want of memory.
+/// A copy of a mapping.
 pub fn copy_rule(alloc: Global, rule: &Rule) -> Result<Rule, Memory> {
     Ok(Rule {
         name: String::from_str(alloc, rule.name.as_str())?,
@@ -50,7 +50,7 @@ pub fn copy_rule(alloc: Global, rule: &Rule) -> Result<Rule, Memory> {
     })
 }
 
-/// Copies of mappings. It is refused only for want of memory.
+/// Copies of mappings.
 pub(crate) fn copy_rules(alloc: Global, rules: &[Rule]) -> Result<Vec<Rule>, Memory> {
     let mut copies = Vec::new(alloc);
     for rule in rules {

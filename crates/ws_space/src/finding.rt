@@ -10,14 +10,13 @@ use ws_command::Pattern;
 use ws_written::{Fact, Unknown, Value as Said};
 
 impl Space {
-    /// A tuple within, as it is said. It is refused only for want of memory.
+    /// A tuple within, as it is said.
     pub fn shown(&self, alloc: Global, tuple: &Tuple) -> Result<Fact, Memory> {
         let named = self.state.names().tuple(alloc, tuple)?;
         said_fact(alloc, &named)
     }
 
-    /// What a tuple that is said is within; None if it names an unknown that is not there. It is refused only for want of
-    /// memory.
+    /// What a tuple that is said is within; None if it names an unknown that is not there.
     pub fn within(&self, alloc: Global, fact: &Fact) -> Result<Option<Tuple>, Memory> {
         let mut values = ValueList::new(alloc);
         for value in &fact.values {
@@ -29,7 +28,7 @@ impl Space {
         Ok(Some(Tuple::new(alloc, small(fact.relation), values)?))
     }
 
-    /// What a value that is said is within; None if it is an unknown that is not there. It is refused only for want of memory.
+    /// What a value that is said is within; None if it is an unknown that is not there.
     pub fn within_value(&self, alloc: Global, value: &Said) -> Result<Option<Value>, Memory> {
         Ok(match value {
             Said::Number(number) => Some(Value::Int(*number)),
@@ -74,8 +73,7 @@ impl Space {
         self.state.facts().contains(tuple)
     }
 
-    /// The tuples that fit, within and in order; none if the pattern names an unknown that is not there. It is refused only
-    /// for want of memory.
+    /// The tuples that fit, within and in order; none if the pattern names an unknown that is not there.
     pub fn matching(&self, alloc: Global, pattern: &Pattern) -> Result<Vec<Tuple>, Memory> {
         let mut columns = Vec::new(alloc);
         for value in &pattern.values {
@@ -90,8 +88,7 @@ impl Space {
         self.fitting(alloc, small(pattern.relation), columns.as_slice())
     }
 
-    /// The tuples of a relation that have these values in their columns, if one is given, within and in order. It is refused
-    /// only for want of memory.
+    /// The tuples of a relation that have these values in their columns, if one is given, within and in order.
     pub fn fitting(
         &self,
         alloc: Global,
@@ -111,7 +108,7 @@ impl Space {
         Ok(tuples)
     }
 
-    /// The tuples of a relation, within and in order. It is refused only for want of memory.
+    /// The tuples of a relation, within and in order.
     pub fn rows(&self, alloc: Global, relation: u32) -> Result<Vec<Tuple>, Memory> {
         self.fitting(alloc, small(relation), &[])
     }

@@ -18,7 +18,7 @@ use ws_written::{
 };
 
 impl Space {
-    /// The head of what stands: it becomes the base, and what waits goes on waiting. It is refused only for want of memory.
+    /// The head of what stands: it becomes the base, and what waits goes on waiting.
     pub fn head(&self, alloc: Global) -> Result<Head, Memory> {
         let numbered = self.state.head(alloc)?;
         let head = self.head_of(alloc, &numbered);
@@ -96,7 +96,7 @@ fn add_rules(head: &mut Head, rules: Vec<Rule>, count: usize) -> Result<(), Memo
     Ok(())
 }
 
-/// Adds copies of relations. It is refused only for want of memory.
+/// Adds copies of relations.
 pub(crate) fn add_relations(
     copies: &mut Vec<Relation>,
     relations: &[Relation],
@@ -231,7 +231,7 @@ fn wanted(image: &TupleList) -> u32 {
     }
 }
 
-/// An answer as it is said. It is refused only for want of memory.
+/// An answer as it is said.
 pub(crate) fn answer_said(alloc: Global, rules: &[Rule], given: &Given) -> Result<Answer, Memory> {
     Ok(Answer {
         choice: choice_said(alloc, &given.choice)?,

@@ -10,7 +10,7 @@ use ws_lines::TableList;
 use ws_state::{Head as Numbered, OpenFault, State};
 use ws_written::{Head, Relation, Rule, Unknown};
 
-/// The state of a head whose mappings are these; None if it is that of no state. It is refused only for want of memory.
+/// The state of a head whose mappings are these; None if it is that of no state.
 pub(crate) fn state_of(
     alloc: Global,
     rules: &[Rule],

@@ -11,7 +11,7 @@ use ws_grammar::set_apart;
 use ws_lines::{Asked, Given, Line as Numbered, Table};
 use ws_written::{Answer, Choice as SaidChoice, Line, Relation, Rule, Stamp};
 
-/// The line in the state's form; None if it names a mapping that is not there. It is refused only for want of memory.
+/// The line in the state's form; None if it names a mapping that is not there.
 pub(crate) fn line_of(
     alloc: Global,
     rules: &[Rule],
@@ -39,7 +39,7 @@ pub(crate) fn line_of(
     })
 }
 
-/// A copy of the mapping with a variable of its own for each `_`. It is refused only for want of memory.
+/// A copy of the mapping with a variable of its own for each `_`.
 pub(crate) fn apart(alloc: Global, rule: &Rule) -> Result<Rule, Memory> {
     let mut copy = crate::copy_rule(alloc, rule)?;
     set_apart(alloc, &mut copy)?;
@@ -52,7 +52,7 @@ fn numbers_of(alloc: Global, numbers: &[u32]) -> Result<NumberList, Memory> {
     Ok(NumberList::from_vec(list))
 }
 
-/// The answer in the state's form; None if its mapping is not there. It is refused only for want of memory.
+/// The answer in the state's form; None if its mapping is not there.
 pub(crate) fn given_of(
     alloc: Global,
     rules: &[Rule],
@@ -78,7 +78,7 @@ fn choice_of(alloc: Global, choice: &SaidChoice) -> Result<Choice, Memory> {
     })
 }
 
-/// The relation in the state's form. It is refused only for want of memory.
+/// The relation in the state's form.
 pub(crate) fn table_of(alloc: Global, relation: &Relation) -> Result<Table, Memory> {
     let mut columns = NameList::new(alloc);
     let mut key = Vec::new(alloc);

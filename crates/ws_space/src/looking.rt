@@ -13,7 +13,7 @@ use ws_run::Reason;
 use ws_written::{Answer, Rule, Update};
 
 impl Space {
-    /// The names of the mappings that are not gone, in the order of their numbers. It is refused only for want of memory.
+    /// The names of the mappings that are not gone, in the order of their numbers.
     pub fn mapping_names(&self, alloc: Global) -> Result<Vec<String>, Memory> {
         let mut names = Vec::new(alloc);
         for (number, rule) in self.rules.iter().enumerate() {
@@ -37,7 +37,7 @@ impl Space {
         self.rules.get(usize::from(mapping))
     }
 
-    /// A mapping as it is printed; empty if there is none. It is refused only for want of memory.
+    /// A mapping as it is printed; empty if there is none.
     pub fn rule_text(&self, alloc: Global, mapping: u16) -> Result<String, Memory> {
         let mut text = Text::new(alloc);
         if let Some(rule) = self.rule(mapping) {
@@ -51,13 +51,12 @@ impl Space {
         crate::sources::name_of(self.rules.as_slice(), mapping)
     }
 
-    /// Why an update waits, over what stands now; None if it does not wait, or nothing is in its way. It is refused only for
-    /// want of memory.
+    /// Why an update waits, over what stands now; None if it does not wait, or nothing is in its way.
     pub fn question(&mut self, alloc: Global, number: u32) -> Result<Option<Reason>, Memory> {
         self.state.ask(alloc, number)
     }
 
-    /// An update as it was said; None if it is not there. It is refused only for want of memory.
+    /// An update as it was said; None if it is not there.
     pub fn update(&self, alloc: Global, number: u32) -> Result<Option<Update>, Memory> {
         match self.state.update(number) {
             Some(update) => Ok(Some(self.said(alloc, update)?)),
@@ -65,18 +64,17 @@ impl Space {
         }
     }
 
-    /// An update of the state as it was said. It is refused only for want of memory.
+    /// An update of the state as it was said.
     pub fn said(&self, alloc: Global, update: &Numbered) -> Result<Update, Memory> {
         said_update(alloc, self.rules.as_slice(), update)
     }
 
-    /// An answer of the state as it was said. It is refused only for want of memory.
+    /// An answer of the state as it was said.
     pub fn said_answer(&self, alloc: Global, given: &Given) -> Result<Answer, Memory> {
         answer_said(alloc, self.rules.as_slice(), given)
     }
 
-    /// An update as it is printed, without its number and its budget; empty if it is not there. It is refused only for want of
-    /// memory.
+    /// An update as it is printed, without its number and its budget; empty if it is not there.
     pub fn update_text(&self, alloc: Global, number: u32) -> Result<String, Memory> {
         let mut text = Text::new(alloc);
         if let Some(update) = self.update(alloc, number)? {
@@ -90,7 +88,7 @@ impl Space {
         Some(self.state.held().get(held)?.update.number)
     }
 
-    /// The numbers of the updates that wait, rising. It is refused only for want of memory.
+    /// The numbers of the updates that wait, rising.
     pub fn waiting_numbers(&self, alloc: Global) -> Result<Vec<u32>, Memory> {
         let mut numbers = Vec::new(alloc);
         for waiting in self.state.waiting().as_slice() {

@@ -12,8 +12,7 @@ use ws_state::Standing;
 use ws_written::Unknown;
 
 impl Space {
-    /// Why a name stands for no unknown: the updates that took it to be another value, or that there was none. It is refused
-    /// only for want of memory.
+    /// Why a name stands for no unknown: the updates that took it to be another value, or that there was none.
     pub fn lost(&self, alloc: Global, unknown: Unknown) -> Result<Fault, Memory> {
         let mut name = Text::new(alloc);
         add_unknown(&mut name, unknown);

@@ -41,7 +41,7 @@ pub fn has_unknown(tuple: &Tuple) -> bool {
     false
 }
 
-/// A value by names, as it is said. It is refused only for want of memory.
+/// A value by names, as it is said.
 pub(crate) fn said_value(alloc: Global, value: &Value) -> Result<Said, Memory> {
     Ok(match value {
         Value::Int(number) => Said::Number(*number),
@@ -50,7 +50,7 @@ pub(crate) fn said_value(alloc: Global, value: &Value) -> Result<Said, Memory> {
     })
 }
 
-/// A tuple by names, as it is said. It is refused only for want of memory.
+/// A tuple by names, as it is said.
 pub(crate) fn said_fact(alloc: Global, tuple: &Tuple) -> Result<Fact, Memory> {
     Ok(Fact {
         relation: u32::from(tuple.relation),
@@ -58,7 +58,7 @@ pub(crate) fn said_fact(alloc: Global, tuple: &Tuple) -> Result<Fact, Memory> {
     })
 }
 
-/// Values by names, as they are said. It is refused only for want of memory.
+/// Values by names, as they are said.
 pub(crate) fn said_values(alloc: Global, values: &[Value]) -> Result<Vec<Said>, Memory> {
     let mut said = Vec::new(alloc);
     said.reserve(values.len())?;
@@ -68,14 +68,14 @@ pub(crate) fn said_values(alloc: Global, values: &[Value]) -> Result<Vec<Said>, 
     Ok(said)
 }
 
-/// Tuples by names, as they are said. It is refused only for want of memory.
+/// Tuples by names, as they are said.
 pub(crate) fn said_facts(alloc: Global, tuples: &[Tuple]) -> Result<Vec<Fact>, Memory> {
     let mut facts = Vec::new(alloc);
     add_said_facts(alloc, &mut facts, tuples)?;
     Ok(facts)
 }
 
-/// Adds tuples by names, as they are said. It is refused only for want of memory.
+/// Adds tuples by names, as they are said.
 pub(crate) fn add_said_facts(
     alloc: Global,
     facts: &mut Vec<Fact>,
@@ -88,7 +88,7 @@ pub(crate) fn add_said_facts(
     Ok(())
 }
 
-/// A value that is said, by names. It is refused only for want of memory.
+/// A value that is said, by names.
 pub(crate) fn named_value(alloc: Global, value: &Said) -> Result<Value, Memory> {
     Ok(match value {
         Said::Number(number) => Value::Int(*number),
@@ -97,7 +97,7 @@ pub(crate) fn named_value(alloc: Global, value: &Said) -> Result<Value, Memory> 
     })
 }
 
-/// Values that are said, by names. It is refused only for want of memory.
+/// Values that are said, by names.
 pub(crate) fn named_values(alloc: Global, values: &[Said]) -> Result<ValueList, Memory> {
     let mut named = ValueList::new(alloc);
     named.reserve(values.len())?;
@@ -107,13 +107,13 @@ pub(crate) fn named_values(alloc: Global, values: &[Said]) -> Result<ValueList, 
     Ok(named)
 }
 
-/// A tuple that is said, by names. It is refused only for want of memory.
+/// A tuple that is said, by names.
 pub(crate) fn named_tuple(alloc: Global, fact: &Fact) -> Result<Tuple, Memory> {
     let values = named_values(alloc, fact.values.as_slice())?;
     Tuple::new(alloc, small(fact.relation), values)
 }
 
-/// Tuples that are said, by names. It is refused only for want of memory.
+/// Tuples that are said, by names.
 pub(crate) fn named_tuples(alloc: Global, facts: &[Fact]) -> Result<TupleList, Memory> {
     let mut tuples = TupleList::new(alloc);
     tuples.reserve(facts.len())?;
@@ -124,17 +124,17 @@ pub(crate) fn named_tuples(alloc: Global, facts: &[Fact]) -> Result<TupleList, M
 }
 
 impl Space {
-    /// A tuple by names, as it is said. It is refused only for want of memory.
+    /// A tuple by names, as it is said.
     pub fn fact(&self, alloc: Global, tuple: &Tuple) -> Result<Fact, Memory> {
         said_fact(alloc, tuple)
     }
 
-    /// A value by names, as it is said. It is refused only for want of memory.
+    /// A value by names, as it is said.
     pub fn value(&self, alloc: Global, value: &Value) -> Result<Said, Memory> {
         said_value(alloc, value)
     }
 
-    /// A tuple that is said, by names. It is refused only for want of memory.
+    /// A tuple that is said, by names.
     pub fn tuple(&self, alloc: Global, fact: &Fact) -> Result<Tuple, Memory> {
         named_tuple(alloc, fact)
     }

@@ -18,7 +18,7 @@ pub struct Point {
 }
 
 impl Space {
-    /// The workspace as it is now, each line being recorded. It is refused only for want of memory.
+    /// The workspace as it is now, each line being recorded.
     pub fn point(&self, alloc: Global) -> Result<Point, Memory> {
         let mut relations = Vec::new(alloc);
         add_relations(&mut relations, self.relations.as_slice())?;
@@ -29,7 +29,7 @@ impl Space {
         })
     }
 
-    /// Takes back the lines that were taken since the point. It is refused only for want of memory; the space is then of no use.
+    /// Takes back the lines that were taken since the point. If it is refused, the space is of no use.
     pub fn back_to(&mut self, alloc: Global, point: Point) -> Result<(), Memory> {
         let Point {
             state,

@@ -5,7 +5,7 @@ use base_types::{Atom, AtomList, Mapping, Memory, Name, NameList, Term, TermRow,
 use std::alloc::Global;
 use ws_written::{Atom as SaidAtom, Rule, Term as SaidTerm};
 
-/// The mapping by numbers that a mapping is, no `_` of which is left. It is refused only for want of memory.
+/// The mapping by numbers that a mapping is, no `_` of which is left.
 pub(crate) fn mapping_of(alloc: Global, rule: &Rule) -> Result<Mapping, Memory> {
     let mut names = NameList::new(alloc);
     let left = atoms_of(alloc, rule.left.as_slice(), &mut names)?;
@@ -21,7 +21,7 @@ pub(crate) fn mapping_of(alloc: Global, rule: &Rule) -> Result<Mapping, Memory> 
     })
 }
 
-/// Atoms by numbers; variables that have no number yet get the next ones. It is refused only for want of memory.
+/// Atoms by numbers; variables that have no number yet get the next ones.
 pub(crate) fn atoms_of(
     alloc: Global,
     atoms: &[SaidAtom],

@@ -9,7 +9,7 @@ use ws_written::Line;
 
 impl Space {
     /// Does what the line says, as said by whom `say_as` names, and tells of it. A line that names a mapping which is not there
-    /// does nothing. It is refused only for want of memory; the space is then of no use.
+    /// does nothing. If it is refused, the space is of no use.
     pub fn take(&mut self, alloc: Global, line: &Line) -> Result<Told, Memory> {
         match self.try_take(alloc, line)? {
             Some(told) => Ok(told),

@@ -36,7 +36,7 @@ pub(crate) fn name_of(rules: &[Rule], mapping: u16) -> &str {
     }
 }
 
-/// What is called so: `_new`, `_fix_m`, or a mapping's name. It is refused only for want of memory.
+/// What is called so: `_new`, `_fix_m`, or a mapping's name.
 pub(crate) fn called(alloc: Global, rules: &[Rule], source: Source) -> Result<String, Memory> {
     Ok(match source {
         Source::Anew => String::from_str(alloc, "_new")?,
@@ -51,8 +51,7 @@ pub(crate) fn called(alloc: Global, rules: &[Rule], source: Source) -> Result<St
 }
 
 impl Space {
-    /// What the mapping of a question is called in an answer: its name, `_fix_m` of a `fix`, or `_new`. It is refused only for
-    /// want of memory.
+    /// What the mapping of a question is called in an answer: its name, `_fix_m` of a `fix`, or `_new`.
     pub fn source_name(&self, alloc: Global, source: Source) -> Result<String, Memory> {
         called(alloc, self.rules.as_slice(), source)
     }

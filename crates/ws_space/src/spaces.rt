@@ -39,7 +39,7 @@ pub struct Space {
 }
 
 impl Space {
-    /// A workspace of which nothing was said. It is refused only for want of memory.
+    /// A workspace of which nothing was said.
     pub fn fresh(alloc: Global, created: Stamp) -> Result<Space, Memory> {
         Ok(Space {
             relations: Vec::new(alloc),
@@ -63,7 +63,7 @@ impl Space {
         self.first.saturating_add(number(self.records.len()))
     }
 
-    /// Says when and by whom the lines are said that are taken from now on. It is refused only for want of memory.
+    /// Says when and by whom the lines are said that are taken from now on.
     pub fn say_as(&mut self, alloc: Global, time: &str, curator: &str) -> Result<(), Memory> {
         self.stamp = Stamp {
             time: String::from_str(alloc, time)?,
@@ -77,7 +77,7 @@ impl Space {
         self.changed.lines == 0
     }
 
-    /// Keeps a record of the lines that were taken since the last one. It is refused only for want of memory.
+    /// Keeps a record of the lines that were taken since the last one.
     pub fn recorded(&mut self, alloc: Global, record: Record) -> Result<(), Memory> {
         let tables = self.changed.tables(alloc)?;
         self.changed = Changed::new(alloc);

@@ -11,7 +11,7 @@ use std::alloc::Global;
 use ws_lines::{Deed, Spelled, SpelledList, SpelledTuple, SpelledTupleList, Update as Numbered};
 use ws_written::{NewFact, NewValue, NumberedUpdate, Rule, Stamp, Update};
 
-/// The update in the state's form; None if it names a mapping that is not there. It is refused only for want of memory.
+/// The update in the state's form; None if it names a mapping that is not there.
 pub(crate) fn update_of(
     alloc: Global,
     rules: &[Rule],
@@ -108,7 +108,7 @@ fn another(name: Name, news: &mut NameList) -> Result<u32, Memory> {
     Ok(u32::try_from(news.len()).unwrap_or(u32::MAX))
 }
 
-/// The update as it was said. It is refused only for want of memory.
+/// The update as it was said.
 pub(crate) fn said_update(
     alloc: Global,
     rules: &[Rule],

@@ -12,7 +12,7 @@ pub struct Statuses {
 }
 
 impl Statuses {
-    /// How the updates of the state stand, found in one walk over them. It is refused only for want of memory.
+    /// How the updates of the state stand, found in one walk over them.
     pub fn of(alloc: Global, state: &State) -> Result<Statuses, Memory> {
         let places = by_places(alloc, state)?;
         let mut statuses = BTreeMap::new(alloc);

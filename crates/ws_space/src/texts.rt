@@ -3,7 +3,7 @@
 use base_types::{List, Memory};
 use std::alloc::Global;
 
-/// The bytes of a text. It is refused only for want of memory.
+/// The bytes of a text.
 pub(crate) fn bytes_of(alloc: Global, text: &str) -> Result<List<u8>, Memory> {
     let mut bytes = Vec::new(alloc);
     bytes.extend_from_slice(text.as_bytes())?;
@@ -15,7 +15,7 @@ pub(crate) fn text_of(bytes: &[u8]) -> &str {
     str::from_utf8(bytes).unwrap_or("")
 }
 
-/// A copy of the text that bytes are. It is refused only for want of memory.
+/// A copy of the text that bytes are.
 pub(crate) fn string_of(alloc: Global, bytes: &[u8]) -> Result<String, Memory> {
     Ok(String::from_str(alloc, text_of(bytes))?)
 }

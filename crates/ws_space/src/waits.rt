@@ -14,8 +14,7 @@ use ws_run::{FIX, WANT, fixing_mapping};
 use ws_state::{HeadWaiting, HeadWaitingList};
 use ws_written::{Answer, Drawn, Image, Rule, Update, Waiting};
 
-/// The updates that wait, in the state's form; None if they name a mapping or a variable that is not there. It is refused only
-/// for want of memory.
+/// The updates that wait, in the state's form; None if they name a mapping or a variable that is not there.
 pub(crate) fn waits_of(
     alloc: Global,
     rules: &[Rule],

@@ -18,8 +18,7 @@ pub(crate) struct Active {
     pub sources: SourceList,
 }
 
-/// Those of the mappings that are in force, in this order, and after them the hidden ones of the update. It is refused only for want
-/// of memory.
+/// Those of the mappings that are in force, in this order, and after them the hidden ones of the update.
 pub(crate) fn active_for(
     alloc: Global,
     declared: &MappingList,
@@ -52,7 +51,7 @@ fn fixed<'a>(declared: &'a MappingList, deed: &Deed) -> Option<(u16, &'a Mapping
     }
 }
 
-/// The mapping that the update repairs, if it is a repair. It takes no memory.
+/// The mapping that the update repairs, if it is a repair.
 pub(crate) fn fixed_mapping<'a>(declared: &'a MappingList, deed: &Deed) -> Option<&'a Mapping> {
     match fixed(declared, deed) {
         Some((_, mapping)) => Some(mapping),

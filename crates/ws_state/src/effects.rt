@@ -41,7 +41,7 @@ pub struct Effect {
 }
 
 impl State {
-    /// What the lines since the mark did, if none of them was an undo or a redo. It is refused only for want of memory.
+    /// What the lines since the mark did, if none of them was an undo or a redo.
     pub fn effect_since(&self, alloc: Global, mark: Mark) -> Result<Effect, Memory> {
         let ground = &self.world.ground;
         let standings = after(self.world.order.as_slice(), mark.order);

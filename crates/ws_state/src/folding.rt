@@ -12,8 +12,8 @@ use ws_lines::{Asked, Deed, Given, GivenList, Source, Update};
 use ws_names::{Cause, Place, Places};
 
 impl State {
-    /// The head of what stands: it becomes the base, and what waits goes on waiting. Mappings that are gone are left out, with the
-    /// answers to them and the places drawn by them. It is refused only for want of memory.
+    /// The head of what stands: it becomes the base, and what waits goes on waiting. Mappings that are gone are left out, with
+    /// the answers to them and the places drawn by them.
     pub fn head(&self, alloc: Global) -> Result<Head, Memory>
         ensures waits { IfOk result (λ head.
             Keeps self.now.held.items self.now.world.waiting.items head.waits.items) }

@@ -18,8 +18,7 @@ pub(crate) struct Latest {
 }
 
 impl World {
-    /// What stands and how many wait, before the update of this number runs, which is held at this place. It is refused only for want
-    /// of memory.
+    /// What stands and how many wait, before the update of this number runs, which is held at this place.
     pub fn latest(&self, alloc: Global, number: u32, place: usize) -> Result<Latest, Memory>
         ensures kept { IfOk result (λ latest. IsKept self.now number latest) }
     {

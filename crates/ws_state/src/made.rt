@@ -6,7 +6,7 @@ use std::alloc::Global;
 use ws_lines::Source;
 use ws_run::{Made, MadeList, StepList};
 
-/// How many tuples the steps put by each source that generated some. It is refused only for want of memory.
+/// How many tuples the steps put by each source that generated some.
 pub(crate) fn made_of(alloc: Global, steps: &StepList) -> Result<MadeList, Memory> {
     let mut made = MadeList::new(alloc);
     for step in steps.as_slice() {

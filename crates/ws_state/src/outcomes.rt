@@ -68,7 +68,7 @@ pub(crate) fn done_by(alloc: Global, place: usize, ops: OpList, places: Places) 
     }
 }
 
-/// The run is done, with what it kept. It is refused only for want of memory.
+/// The run is done, with what it kept.
 pub(crate) fn done_with(
     alloc: Global,
     turn: Turn<'_>,
@@ -107,7 +107,7 @@ fn fitted<T>(list: List<T>) -> List<T>
     List::from_vec(items)
 }
 
-/// The run was halted, with what it kept. It is refused only for want of memory.
+/// The run was halted, with what it kept.
 pub(crate) fn halted(alloc: Global, thread: Thread, halt: Halt) -> Result<Tried, Memory> {
     match halt {
         Halt::Left(reason) => left_with(alloc, thread, reason),

@@ -44,7 +44,7 @@ pub(crate) struct WorldBefore {
 }
 
 impl State {
-    /// The state as it is now, to go back to. It is refused only for want of memory.
+    /// The state as it is now, to go back to.
     pub fn point(&self, alloc: Global) -> Result<Point, Memory>
         ensures place { IfOk result (λ point. IsPointOf self.now point) }
     {
@@ -80,8 +80,8 @@ impl State {
         Ok(all)
     }
 
-    /// Takes back all that was done since the point. What was only run is taken back as it was run; if lines were replayed, they are
-    /// replayed again. It is refused only for want of memory; the state is then of no use.
+    /// Takes back all that was done since the point. What was only run is taken back as it was run; if lines were replayed, they
+    /// are replayed again. If it is refused, the state is of no use.
     #[tactic(auto, using(crate::proofs::Returning::led_back, crate::proofs::Returning::replayed_since))]
     pub fn back_to(&mut self, alloc: Global, point: Point) -> Result<(), Memory>
         ensures back { OnOk result (LeadsBack point self.old self.new) }
@@ -146,7 +146,7 @@ fn events_back_to(events: &mut Vec<Event>, forgotten: &[bool]) {
 }
 
 impl World {
-    /// What stands now, to go back to. It is refused only for want of memory.
+    /// What stands now, to go back to.
     pub fn kept(&self, alloc: Global) -> Result<WorldBefore, Memory>
         ensures place { IfOk result (λ before. IsPlaceIn self.now before) }
     {
@@ -160,7 +160,7 @@ impl World {
         })
     }
 
-    /// Takes back what was run since then, but for what waits. It is refused only for want of memory.
+    /// Takes back what was run since then, but for what waits.
     pub fn back_to(&mut self, alloc: Global, before: WorldBefore) -> Result<(), Memory>
         ensures back { OnOk result
             (IsBackAt before (what_stands self.old) (what_stands self.new)) }

@@ -78,7 +78,7 @@ pub struct State {
 }
 
 impl State {
-    /// The state of a workspace without a line. It takes no memory.
+    /// The state of a workspace without a line.
     pub fn new(alloc: Global) -> State {
         let ground = Ground::new(alloc, IndexedFacts::new(alloc), Names::new(alloc));
         State {
@@ -97,7 +97,7 @@ impl State {
         }
     }
 
-    /// Does what the line says, and tells of it. It is refused only for want of memory; the state is then of no use.
+    /// Does what the line says, and tells of it. If it is refused, the state is of no use.
     #[tactic(auto, using(crate::proofs::Staying::gone_on, crate::proofs::Staying::same_on, crate::proofs::Telling::none_told, crate::proofs::Telling::fold_told, crate::proofs::Telling::any_told))]
     pub fn take(&mut self, alloc: Global, line: Line) -> Result<Told, Memory>
         ensures fold { OnOk result (what_stood self.new ≡ what_stood self.old) }
@@ -209,7 +209,7 @@ impl State {
     }
 
     /// Why the update of this number does not stand, if it waits, over what stands now; None if it does not wait or nothing is in
-    /// its way. The state stays as it is. It is refused only for want of memory.
+    /// its way. The state stays as it is.
     pub fn ask(&mut self, alloc: Global, number: u32) -> Result<Option<Reason>, Memory>
         ensures stands { OnOk result (what_stands self.new.world ≡ what_stands self.old.world) }
         ensures waiting { OnOk result
@@ -233,7 +233,7 @@ impl State {
         self.places.get(&number).copied()
     }
 
-    /// How the update of this number stands; None if there is none. It takes no memory.
+    /// How the update of this number stands; None if there is none.
     pub fn status(&self, number: u32) -> Option<Status> {
         match self.place_of(number) {
             Some(place) => Some(self.status_at(place)),
@@ -376,7 +376,7 @@ impl State {
         &self.world.ground.names
     }
 
-    /// The tuples by names, in the order of those within. It is refused only for want of memory.
+    /// The tuples by names, in the order of those within.
     pub fn visible(&self, alloc: Global) -> Result<TupleList, Memory> {
         let tuples = self.world.ground.facts.list(alloc)?;
         self.names().tuples(alloc, tuples.as_slice())

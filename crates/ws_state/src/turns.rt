@@ -23,7 +23,7 @@ pub(crate) struct Turn<'a> {
     pub answers: &'a GivenList,
 }
 
-/// Runs the update over what stands. If it is not done, what its ops did has to be taken back. It is refused only for want of memory.
+/// Runs the update over what stands. If it is not done, what its ops did has to be taken back.
 #[tactic(auto, using(crate::proofs::Staying::none_run))]
 pub(crate) fn run_turn(
     alloc: Global,

@@ -13,7 +13,7 @@ pub(crate) struct Visible {
     went: BTreeMap<Tuple, Tuple>,
 }
 
-/// What is other by now than at the last fold. It is refused only for want of memory.
+/// What is other by now than at the last fold.
 pub(crate) fn visible_of(alloc: Global, ground: &Ground) -> Result<Visible, Memory> {
     let mut touched = Touched::new(alloc);
     touched.made(ground.trail.as_slice())?;
@@ -34,8 +34,7 @@ pub(crate) fn visible_of(alloc: Global, ground: &Ground) -> Result<Visible, Memo
     Ok(visible)
 }
 
-/// The tuples that are seen in the second and not in the first, by names, in the order of what they are within. It is refused only for
-/// want of memory.
+/// The tuples that are seen in the second and not in the first, by names, in the order of what they are within.
 pub(crate) fn came_between(
     alloc: Global,
     old: &Visible,

@@ -18,7 +18,7 @@ pub(crate) fn by_of(by: &BTreeMap<Tuple, Source>, tuple: &Tuple) -> Option<u16> 
     }
 }
 
-/// The tuples that came or went by a mapping, with it. It is refused only for want of memory.
+/// The tuples that came or went by a mapping, with it.
 pub(crate) fn ways_of(
     alloc: Global,
     ground: &Ground,
@@ -53,7 +53,7 @@ fn note_ways(
     Ok(())
 }
 
-/// Puts the value under the tuple. It is refused only for want of memory.
+/// Puts the value under the tuple.
 pub(crate) fn put<V: Drop>(
     map: &mut BTreeMap<Tuple, V>,
     tuple: &Tuple,

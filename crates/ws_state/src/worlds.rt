@@ -96,7 +96,7 @@ impl World {
         place_among(&self.waiting, held)
     }
 
-    /// The answers of the update that is held at this place, if it waits. It is refused only for want of memory.
+    /// The answers of the update that is held at this place, if it waits.
     pub fn answers_of(&self, alloc: Global, held: usize) -> Result<Option<GivenList>, Memory> {
         let mut waiting = self.waiting.as_slice().iter();
         match waiting.find(|waiting| waiting.held == held) {
@@ -105,7 +105,7 @@ impl World {
         }
     }
 
-    /// The update waits with these answers: in its place if it waited, else as the last. It is refused only for want of memory.
+    /// The update waits with these answers: in its place if it waited, else as the last.
     pub fn wait(&mut self, held: usize, answers: GivenList) -> Result<(), Memory> {
         wait_among(&mut self.waiting, held, answers)
     }
@@ -133,7 +133,7 @@ pub(crate) fn gives_up(in_force: &List<u16>, gone: &List<u16>, deed: &Deed) -> b
     }
 }
 
-/// Puts a mapping in force, after the others, unless it is. It is refused only for want of memory.
+/// Puts a mapping in force, after the others, unless it is.
 pub(crate) fn put_in_force(in_force: &mut List<u16>, mapping: u16) -> Result<(), Memory> {
     if !is_among(in_force, mapping) {
         in_force.push(mapping)?;
@@ -141,7 +141,7 @@ pub(crate) fn put_in_force(in_force: &mut List<u16>, mapping: u16) -> Result<(),
     Ok(())
 }
 
-/// Takes a mapping away. It is refused only for want of memory.
+/// Takes a mapping away.
 pub(crate) fn drop_mapping(
     alloc: Global,
     in_force: &mut List<u16>,
@@ -155,7 +155,7 @@ pub(crate) fn drop_mapping(
     Ok(())
 }
 
-/// The update waits among these, in its place if it waited, else as the last. It is refused only for want of memory.
+/// The update waits among these, in its place if it waited, else as the last.
 pub(crate) fn wait_among(
     list: &mut WaitingList,
     held: usize,

@@ -133,7 +133,7 @@ fn not_there(alloc: Global, space: &Space, facts: &[Fact]) -> Result<Done, Refus
     Ok(Done::unrecorded(alloc, report))
 }
 
-/// What is told of the tuples that are like one that is not there. It is refused only for want of memory.
+/// What is told of the tuples that are like one that is not there.
 pub(crate) fn near_lines(
     alloc: Global,
     space: &Space,

@@ -40,7 +40,7 @@ pub(crate) fn check_new_fact(alloc: Global, space: &Space, fact: &NewFact) -> Re
     Ok(())
 }
 
-/// Whether the tuple is there. It is refused only for want of memory.
+/// Whether the tuple is there.
 pub(crate) fn is_there(alloc: Global, space: &Space, fact: &Fact) -> Result<bool, Memory> {
     match space.within(alloc, fact)? {
         Some(tuple) => Ok(space.has(&tuple)),

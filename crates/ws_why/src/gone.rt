@@ -22,7 +22,7 @@ struct Told {
     words: String,
 }
 
-/// What took the tuple away last. It is refused if none did, or for want of memory.
+/// What took the tuple away last. It is refused if none did.
 pub(crate) fn gone(
     alloc: Global,
     space: &Space,

@@ -48,8 +48,7 @@ struct Open {
     depth: usize,
 }
 
-/// The reasons for a tuple within that is there: first its own, behind each those for what it rests on. It is refused only for want
-/// of memory.
+/// The reasons for a tuple within that is there: first its own, behind each those for what it rests on.
 pub(crate) fn reasons_for(
     alloc: Global,
     space: &Space,

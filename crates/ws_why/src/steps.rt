@@ -25,7 +25,7 @@ pub(crate) struct Steps<'a> {
 }
 
 impl<'a> Steps<'a> {
-    /// The steps of what stands. It is refused only for want of memory.
+    /// The steps of what stands.
     pub(crate) fn of(alloc: Global, space: &'a Space) -> Result<Steps<'a>, Memory> {
         let mut steps = Steps {
             all: Vec::new(alloc),
@@ -87,7 +87,7 @@ pub(crate) enum Origin {
     Rewritten(Tuple),
 }
 
-/// How the step came to the tuple. It is refused only for want of memory.
+/// How the step came to the tuple.
 pub(crate) fn origin_by(alloc: Global, made: Made<'_>, tuple: &Tuple) -> Result<Origin, Memory> {
     match &made.step.note.way {
         Way::Inserts => Ok(Origin::Inserted),
@@ -124,7 +124,7 @@ fn least_from(
     least.unwrap_or(tuple).share()
 }
 
-/// What the tuple became. It is refused only for want of memory.
+/// What the tuple became.
 pub(crate) fn rewritten(
     alloc: Global,
     rewriting: &Rewriting,

@@ -14,7 +14,7 @@ use ws_space::Space;
 use ws_state::{Held, Status};
 use ws_written::Unknown;
 
-/// What drew the unknown, and the tuples that it stands in. It is refused if it is not there, or for want of memory.
+/// What drew the unknown, and the tuples that it stands in. It is refused if it is not there.
 pub fn why_unknown(
     alloc: Global,
     space: &Space,

@@ -17,8 +17,8 @@ use ws_written::{Fact, Value};
 // How many of the tuples that fit are told.
 const TOLD: usize = 3;
 
-/// Why the tuple that fits is there, as a graph if that is asked for, or what took it away. It is refused if several fit or none was
-/// ever there, or for want of memory.
+/// Why the tuple that fits is there, as a graph if that is asked for, or what took it away. It is refused if several fit or none
+/// was ever there.
 pub fn why_fact(
     alloc: Global,
     space: &Space,

@@ -25,7 +25,7 @@ struct Graph {
     path: Vec<usize>,
 }
 
-/// The lines of the graph. It is refused only for want of memory.
+/// The lines of the graph.
 pub(crate) fn dot_lines(
     alloc: Global,
     space: &Space,

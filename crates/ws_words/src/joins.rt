@@ -5,7 +5,7 @@ use std::alloc::{AllocError, Global};
 use ws_fault::Fault;
 use ws_print::Text;
 
-/// Words joined by blanks; none if there are none. It is refused only for want of memory.
+/// Words joined by blanks; none if there are none.
 pub fn joined(alloc: Global, words: &[String]) -> Result<Option<String>, AllocError> {
     if words.is_empty() {
         return Ok(None);
@@ -39,8 +39,7 @@ pub fn wants_json(words: &[String]) -> bool {
     false
 }
 
-/// The fault of words that have a verb in the place of the file; its hint is the words from that on, after FILE. It is refused only
-/// for want of memory.
+/// The fault of words that have a verb in the place of the file; its hint is the words from that on, after FILE.
 pub fn file_first(alloc: Global, words: &[String], file: &str) -> Result<Fault, AllocError> {
     let place = words.iter().position(|w| w.as_str() == file);
     let from = words.get(place.unwrap_or(0)..).unwrap_or(words);

@@ -3,8 +3,7 @@
 use jiff::Timestamp;
 use std::alloc::{AllocError, Global};
 
-/// The time, in UTC, of so many seconds since the beginning of 1970; the first second of 1970 if that is
-/// out of range. It is refused only for want of memory.
+/// The time, in UTC, of so many seconds since the beginning of 1970; the first second of 1970 if that is out of range.
 pub fn time_of(alloc: Global, seconds: i64) -> Result<String, AllocError> {
     let stamp = Timestamp::from_second(seconds).unwrap_or(Timestamp::UNIX_EPOCH);
     format!(in alloc; "{stamp}")

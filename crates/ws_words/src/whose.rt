@@ -14,8 +14,7 @@ fn with_underscores(alloc: Global, text: &str) -> Result<String, AllocError> {
 }
 
 /// The name of the curator that a text of the environment or of `--as` stands for: each character that may not stand in a name
-/// becomes `_`, one that begins with a digit gets a `_` in front, and an empty one is `someone`. It is refused only for want
-/// of memory.
+/// becomes `_`, one that begins with a digit gets a `_` in front, and an empty one is `someone`.
 pub fn curator_of(alloc: Global, text: &str) -> Result<String, AllocError> {
     if text.is_empty() {
         return String::from_str(alloc, "someone");

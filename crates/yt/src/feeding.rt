@@ -19,7 +19,7 @@ pub struct Input {
 const MOST: u64 = 1_000_000;
 
 impl Input {
-    /// Standard input from its beginning. It is refused only for want of memory.
+    /// Standard input from its beginning.
     pub fn new(rt: &HostRuntime) -> Result<Input, Memory> {
         match BufReader::new(rt.alloc(), rt.stdin()) {
             Ok(reader) => Ok(Input { reader }),
@@ -59,7 +59,7 @@ impl Input {
     }
 }
 
-/// What of standard input belongs to the one command of the words, or the words of the fault. It is refused only for want of memory.
+/// What of standard input belongs to the one command of the words, or the words of the fault.
 pub fn fed_by(
     rt: &HostRuntime,
     input: &mut Input,

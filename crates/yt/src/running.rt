@@ -13,7 +13,7 @@ use ws_reply::Form;
 use ws_session::{Fed, Session, Settings, Turn};
 use ws_words::{Asked, Words, file_first, read_words, wants_json};
 
-/// Does what the words ask for. It is refused only for want of memory.
+/// Does what the words ask for.
 pub fn run(rt: &HostRuntime) -> Result<Status, Memory> {
     let given = words_of(rt)?;
     let words = given.words.as_slice();

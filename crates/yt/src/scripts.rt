@@ -33,7 +33,7 @@ enum Next {
     Stop(Status),
 }
 
-/// Does the lines of standard input, with a prompt if it is a terminal. It is refused only for want of memory.
+/// Does the lines of standard input, with a prompt if it is a terminal.
 pub fn run_script(
     rt: &HostRuntime,
     work: &Words,

@@ -52,7 +52,7 @@ fn are_written(rt: &HostRuntime, is_fault: bool, lines: &[String]) -> bool {
     true
 }
 
-/// Tells lines on the output. It is refused only for want of memory.
+/// Tells lines on the output.
 pub fn tell_text(rt: &HostRuntime, text: &str) -> Result<Status, Memory> {
     let mut line = String::from_str(rt.alloc(), text)?;
     if !text.ends_with('\n') {
@@ -64,7 +64,7 @@ pub fn tell_text(rt: &HostRuntime, text: &str) -> Result<Status, Memory> {
     }
 }
 
-/// Tells a fault of the words, with what may be done about it, unless that is empty. It is refused only for want of memory.
+/// Tells a fault of the words, with what may be done about it, unless that is empty.
 pub fn tell_fault(
     rt: &HostRuntime,
     form: Form,
@@ -83,7 +83,7 @@ pub fn tell_fault(
     tell_wrong(rt, form, &fault)
 }
 
-/// Tells a fault of the words. It is refused only for want of memory.
+/// Tells a fault of the words.
 pub fn tell_wrong(rt: &HostRuntime, form: Form, fault: &Fault) -> Result<Status, Memory> {
     let reply = fault_reply(rt.alloc(), form, fault, "", None)?;
     Ok(tell(rt, form, &reply))
@@ -100,7 +100,7 @@ pub fn form_of(json: bool) -> Form {
     if json { Form::Json } else { Form::Text }
 }
 
-/// A text without a hint. It is refused only for want of memory.
+/// A text without a hint.
 pub fn text(alloc: Global, words: &str) -> Result<String, AllocError> {
     String::from_str(alloc, words)
 }

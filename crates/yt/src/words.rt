@@ -15,7 +15,7 @@ pub struct Given {
     pub unread: Option<usize>,
 }
 
-/// The words after the program's name. It is refused only for want of memory.
+/// The words after the program's name.
 pub fn words_of(rt: &HostRuntime) -> Result<Given, Memory> {
     let mut given = Given {
         words: Vec::new(rt.alloc()),
@@ -67,7 +67,7 @@ fn variable(rt: &HostRuntime, name: &str) -> Result<String, Memory> {
     }
 }
 
-/// Who speaks: `--as`, or `YT_CURATOR`, or `USER`. It is refused only for want of memory.
+/// Who speaks: `--as`, or `YT_CURATOR`, or `USER`.
 pub fn curator(rt: &HostRuntime, words: &Words) -> Result<String, Memory> {
     let alloc = rt.alloc();
     if let Some(name) = &words.curator {
@@ -90,7 +90,7 @@ pub enum Time {
     Wrong,
 }
 
-/// What `YT_TIME` says. It is refused only for want of memory.
+/// What `YT_TIME` says.
 pub fn said_time(rt: &HostRuntime) -> Result<Time, Memory> {
     match env::var(rt, "YT_TIME") {
         Ok(set) => Ok(time_in(set)),
@@ -112,7 +112,7 @@ fn time_in(set: String) -> Time {
 }
 
 impl Time {
-    /// The time now. It is refused only for want of memory.
+    /// The time now.
     pub fn now(&self, rt: &HostRuntime) -> Result<String, AllocError> {
         match self {
             Time::Fixed(text) => String::from_str(rt.alloc(), text.as_str()),

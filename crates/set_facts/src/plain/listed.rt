@@ -11,8 +11,7 @@ use std::collections::BTreeSet;
 use std::collections::btree_set::Iter;
 
 impl PlainFacts {
-    /// The set of the tuples of a list, whatever their order and how often they stand there. It is refused only for
-    /// want of memory.
+    /// The set of the tuples of a list, whatever their order and how often they stand there.
     pub fn of_list(alloc: Global, tuples: &TupleList) -> Result<PlainFacts, Memory>
         ensures members { IfOk result
             (λ facts. (t : Fact) → has facts t ≡ has (map fact_of tuples.now.items) t) }
@@ -23,7 +22,7 @@ impl PlainFacts {
         PlainFacts::of_owned(alloc, tuples.copy(alloc)?)
     }
 
-    /// The set of the tuples of a list, which it takes over. It is refused only for want of memory.
+    /// The set of the tuples of a list, which it takes over.
     pub(crate) fn of_owned(alloc: Global, tuples: TupleList) -> Result<PlainFacts, Memory>
         ensures members { IfOk result
             (λ facts. (t : Fact) → has facts t ≡ has (map fact_of tuples.items) t) }
@@ -35,7 +34,7 @@ impl PlainFacts {
         }
     }
 
-    /// The tuples in order. It is refused only for want of memory.
+    /// The tuples in order.
     pub fn list(&self, alloc: Global) -> Result<TupleList, Memory>
         ensures tuples { IfOk result (λ list. map fact_of list.items ≡ self.now) }
         ensures in_order { IsRepository self.now }
@@ -56,7 +55,7 @@ impl PlainFacts {
         self.tuples.iter()
     }
 
-    /// The tuples in order, taken out of the set. It is refused only for want of memory.
+    /// The tuples in order, taken out of the set.
     pub fn into_list(self, alloc: Global) -> Result<TupleList, Memory>
         ensures tuples { IfOk result (λ list. map fact_of list.items ≡ self) }
     {
