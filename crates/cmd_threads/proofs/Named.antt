@@ -1,25 +1,18 @@
 -- The nulls of a run are named by their updates and places.
 use Rattle.std.specs.Prelude.{◌==◌, nat_lt}
-use Rattle.std.proofs.Common.{◌≡◌, ◌∙◌, inl, inr, ap, refl, sym, subst, ℕ, zero, suc, ◌≤◌, Bool, true, false, not, ◌||◌, ◌&&◌, Option, Some, None, List, [], ◌∷◌, ◌++◌, map, length, arith}
+use Rattle.std.proofs.Common.{◌≡◌, ◌∙◌, inl, inr, ap, refl, sym, subst, ℕ, ◌≤◌, Bool, true, false, not, ◌||◌, ◌&&◌, Option, Some, None, List, [], ◌∷◌, length, arith}
 use Rattle.std.specs.List.{list_any, list_all}
 use Rattle.std.proofs.lemmas.Bool.{and_parts, eqb-true, ltb-true}
 use Rattle.std.proofs.lemmas.Bool.Decides.{nat_tests}
-use Rattle.def_machine.specs.Bounds.{admissions_in}
-use Rattle.def_machine.specs.Histories.{event_of}
-use Rattle.def_machine.specs.History.{IsHistory}
 use Rattle.def_machine.specs.Updates.{Update, Settings, hides}
-use Rattle.def_machine.proofs.Theorem.{history_law}
-use Rattle.def_chase.specs.Repository.{IsRepository}
 use Rattle.def_chase.specs.Values.{NullName, Datum, Unknown, Fact, same_datum}
 use Rattle.def_chase.proofs.Bools.{differ, none_some, some_same}
 use Rattle.def_chase.proofs.Learning.{same_datum_exact}
-use Rattle.def_steps.specs.Chase.{caused}
 use Rattle.def_steps.specs.Origins.{stands_in}
 use Rattle.def_steps.specs.Serial.{SerialResult}
-use Rattle.def_steps.proofs.ChaseLaws.{chase_laws}
-use Rattle.def_history.specs.Cores.{Ground, machine, session_over, entries_over, updates_after, IsLegalOver}
+use Rattle.def_history.specs.Cores.{Ground, machine, session_over, entries_over, updates_after}
 use Rattle.def_history.specs.Nulls.{numbered, drew, is_present, ArePresent}
-use Rattle.def_history.specs.PlainEntries.{PlainEntry, WasAdmitted, WasStepped, WasDelivered, WasAnswered, WasWithdrawn}
+use Rattle.def_history.specs.PlainEntries.{PlainEntry}
 use Rattle.def_history.proofs.Nulls.{nulls_are_present}
 use Rattle.def_language.specs.Checks.{rules_of}
 use Rattle.def_language.specs.Grammar.{null_word}
@@ -29,45 +22,10 @@ use Rattle.def_language.specs.Words.{null}
 use Rattle.lang_session.specs.Base.{base_violation}
 use Rattle.core_laws.specs.Laws.{AreRecorded}
 use Rattle.core_laws.proofs.Checked.{checked_is_admissible, whole_is_serial}
-use Rattle.core_engine.specs.States.{ground_of, admissions_from}
-use Rattle.work_session.specs.Runs.{is_move, IsRunOf}
+use Rattle.core_engine.specs.States.{ground_of}
+use Rattle.work_session.specs.Runs.{IsRunOf}
+use Rattle.work_session.proofs.Running.{all_recorded, updates_left}
 use Rattle.cmd_threads.specs.Nulls.{left_after, IsDrawn, HasItsName, NamesNulls}
-
--- ---- admissions, and moves after them
-
-module _ (g : Ground) where
-  -- Moves are recorded, and admit nothing.
-  moves_recorded : (H : List PlainEntry) → list_all is_move H ≡ true → AreRecorded g H
-  moves_recorded [] h = refl
-  moves_recorded (WasAdmitted i ∷ H) h = differ h
-  moves_recorded (WasStepped e ∷ H) h = moves_recorded H h
-  moves_recorded (WasDelivered e ∷ H) h = moves_recorded H h
-  moves_recorded (WasAnswered e ∷ H) h = differ h
-  moves_recorded (WasWithdrawn e ∷ H) h = differ h
-
-  moves_admit : (H : List PlainEntry) → list_all is_move H ≡ true → admissions_in (entries_over g H) ≡ 0
-  moves_admit [] h = refl
-  moves_admit (WasAdmitted i ∷ H) h = differ h
-  moves_admit (WasStepped e ∷ H) h = let rest = moves_admit H h in omega (arith, rest)
-  moves_admit (WasDelivered e ∷ H) h = let rest = moves_admit H h in omega (arith, rest)
-  moves_admit (WasAnswered e ∷ H) h = differ h
-  moves_admit (WasWithdrawn e ∷ H) h = differ h
-
-  -- So are admissions, and each admits one.
-  all_recorded : (n k : ℕ) (H : List PlainEntry) → list_all is_move H ≡ true → AreRecorded g (admissions_from n k ++ H)
-  all_recorded n zero H h = moves_recorded H h
-  all_recorded n (suc k) H h = all_recorded (suc n) k H h
-
-  all_admit : (n k : ℕ) (H : List PlainEntry) → list_all is_move H ≡ true → admissions_in (entries_over g (admissions_from n k ++ H)) ≡ k
-  all_admit n zero H h = moves_admit H h
-  all_admit n (suc k) H h = let rest = all_admit (suc n) k H h in omega (arith, rest)
-
-  -- As many updates are left as were admitted.
-  as_many_left : (K : List PlainEntry) (k : ℕ) (H : List PlainEntry) → 1 ≤ g.budget → IsRepository g.base → IsLegalOver g K → K ≡ admissions_from 1 k ++ H → list_all is_move H ≡ true → length (updates_after g K) ≡ k
-  as_many_left K k H some sorted legal begins alone =
-      let h : IsHistory (machine g) g.settings (session_over g) (record { updates = updates_after g K; entries = entries_over g K }) =
-      history_law (machine g) (chase_laws caused g.rules g.budget some) g.settings (session_over g) (map event_of (entries_over g K)) (record { updates = updates_after g K; entries = entries_over g K }) sorted legal in
-      sym h.admissions ∙ ap (λ (L : List PlainEntry). admissions_in (entries_over g L)) begins ∙ all_admit 1 k H alone
 
 -- ---- what stands in a repository
 
@@ -157,7 +115,7 @@ module _ (s : SessionData) (v : IsSession s) (met : base_violation s ≡ None) (
             ap (λ (r : SerialResult). r.repository)
             (whole_is_serial steps c s (entries_over g H) (updates_after g H) v met some run.legal record {
               recorded = subst (AreRecorded g) (sym run.begins) (all_recorded g 1 (length s.updates) run.moves run.alone);
-              admitted = as_many_left g H (length s.updates) run.moves some v.base_order run.legal run.begins run.alone;
+              admitted = updates_left g H (length s.updates) run.moves some v.base_order run.legal run.begins run.alone;
               quiet = run.quiet;
             });
         named = null_named;

@@ -1,6 +1,6 @@
 mod Staying
 mod Serving
-mod Running
+pub mod Running
 mod Sent
 mod Ran
 mod WorkersSent

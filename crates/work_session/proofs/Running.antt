@@ -56,7 +56,7 @@ module _ (g : Ground) where
   moves_admit (WasWithdrawn e ∷ H) h = let never : false ≡ true = h in cc
 
   -- So are admissions, and each admits one.
-  all_recorded : (n k : ℕ) (H : List PlainEntry) → list_all is_move H ≡ true → AreRecorded g (admissions_from n k ++ H)
+  pub all_recorded : (n k : ℕ) (H : List PlainEntry) → list_all is_move H ≡ true → AreRecorded g (admissions_from n k ++ H)
   all_recorded n zero H h = moves_recorded H h
   all_recorded n (suc k) H h = all_recorded (suc n) k H h
 
@@ -65,7 +65,7 @@ module _ (g : Ground) where
   all_admit n (suc k) H h = let rest = all_admit (suc n) k H h in omega (arith, rest)
 
   -- As many updates are left as were admitted.
-  updates_left : (K : List PlainEntry) (k : ℕ) (H : List PlainEntry) → 1 ≤ g.budget → IsRepository g.base → IsLegalOver g K → K ≡ admissions_from 1 k ++ H → list_all is_move H ≡ true → length (updates_after g K) ≡ k
+  pub updates_left : (K : List PlainEntry) (k : ℕ) (H : List PlainEntry) → 1 ≤ g.budget → IsRepository g.base → IsLegalOver g K → K ≡ admissions_from 1 k ++ H → list_all is_move H ≡ true → length (updates_after g K) ≡ k
   updates_left K k H some sorted legal begins alone =
       let h : IsHistory (machine g) g.settings (session_over g) (record { updates = updates_after g K; entries = entries_over g K }) =
       history_law (machine g) (chase_laws caused g.rules g.budget some) g.settings (session_over g) (map event_of (entries_over g K)) (record { updates = updates_after g K; entries = entries_over g K }) sorted legal in
