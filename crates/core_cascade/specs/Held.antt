@@ -20,7 +20,7 @@ module _ (ms : List Rule) (B : ℕ) where
     pub sorted : IsRepository D
     pub stand : StandFor v D (numbered (trail (caused_chase ms B)) us)
 
-  -- The versions are of some base and some trails, of which those from number n on are those of the updates.
+  -- The versions are of some base and some trails, of which those from number n on are the trails of the updates.
   pub record HoldFrom (n : ℕ) (us : List (Update (caused_chase ms B))) (v : Kept) : Type 0 where
     pub base : List Fact
     pub trails : ℕ → List Change
@@ -36,13 +36,12 @@ module _ (ms : List Rule) (B : ℕ) where
   abbrev pub above : List Fact → List (Update (caused_chase ms B)) → Update (caused_chase ms B) → List Fact
   above D lower u = apply (laid D lower) (trail (caused_chase ms B) u)
 
--- Versions of a history's updates hold the trails of the upper ones, and what the first of these sees is what the lower
--- ones leave.
+-- Versions of a history's updates hold the trails of the upper ones, and the first of these sees what the lower ones leave.
 pub record TrailsHeld (ms : List Rule) (B : ℕ) (D : List Fact) (lower upper : List (Update (caused_chase ms B))) (v : Kept) : Type 0 where
   pub held : HoldFrom ms B (suc (length lower)) upper v
   pub below : seen (suc (length lower)) v ≡ laid ms B D lower
 
--- For every history.
+-- For every history, its versions hold the trails of the upper updates.
 abbrev pub TrailsAreHeld : Type 0
 TrailsAreHeld =
     (ms : List Rule) (B : ℕ) (D : List Fact) (lower upper : List (Update (caused_chase ms B))) (v : Kept)

@@ -16,7 +16,7 @@ use Rattle.def_steps.specs.Chase.{caused_chase}
 use Rattle.set_versions.specs.Standing.{Kept}
 use Rattle.core_cascade.specs.declared.cascades.Cascade.{Cascade}
 
--- What a walk upwards goes by: the mappings, how dependences are tested, how many updates were committed when the event
+-- What a walk upwards depends on: the mappings, how dependences are tested, how many updates were committed when the event
 -- began, the number of the event's update, whether the writes of the event came or went, and the versions with all trails.
 pub record Above : Type 0 where
   pub rules : List Rule
@@ -36,15 +36,15 @@ module _ (ms : List Rule) (B : ℕ) where
   abbrev pub member_of : Trail → Member (caused_chase ms B)
   member_of t = record { number = t.update; trail = writes_of t }
 
-  -- Those of all members.
+  -- The members of a history whose trails these are.
   abbrev pub members_of : List Trail → List (Member (caused_chase ms B))
   members_of ks = map member_of ks
 
-  -- The cause in a history that was found, if one was.
+  -- The cause that was found, as a history has it, if one was.
   abbrev pub found_of : Option CauseOfProgram → Option (Cause (caused_chase ms B))
   found_of x = option_map (cause_kept ms B) (option_map cause_of x)
 
-  -- Those that were found for the updates of a walk.
+  -- The causes that were found for the updates of a walk.
   abbrev pub all_found : List (Option CauseOfProgram) → List (Option (Cause (caused_chase ms B)))
   all_found xs = map found_of xs
 
@@ -52,6 +52,6 @@ module _ (ms : List Rule) (B : ℕ) where
   abbrev pub no_cause : QueuedUpdate → Option (Cause (caused_chase ms B))
   no_cause r = None
 
-  -- Those of these updates, where causes were looked for among the first alone and the others have none.
+  -- The causes of these updates, if causes were looked for among the first alone and the others have none.
   abbrev pub found_for : List QueuedUpdate → List (Option CauseOfProgram) → List (Option (Cause (caused_chase ms B)))
   found_for rs xs = all_found xs ++ map no_cause (drop (length xs) rs)

@@ -1,4 +1,4 @@
--- What each part of the walk finds and leaves.
+-- What each part of the walk finds and what it leaves.
 use Rattle.std.specs.Prelude.{◌≡◌, ◌≤◌, ℕ, zero, suc, ◌-◌, nat_lt, Bool, true, false, not, ◌&&◌, List, [], ◌∷◌, ◌++◌, length, Option, None, if◌then◌else◌}
 use Rattle.std.specs.List.{list_all}
 use Rattle.std.specs.Option.{option_map}
@@ -38,11 +38,11 @@ use Rattle.core_cascade.specs.Reached.{least_writer, first_changed_in, first_dep
 abbrev pub number_of : QueuedUpdate → ℕ
 number_of r = r.program.attempt.number
 
--- The reader is live, where c updates were committed.
+-- The reader is live, if c updates were committed.
 abbrev pub is_live_in : ℕ → QueuedUpdate → Bool
 is_live_in c r = nat_lt c (number_of r) && not r.withdrawn
 
--- It is live, and has read something.
+-- The reader is live, and has read something.
 abbrev pub may_have_cause : ℕ → QueuedUpdate → Bool
 may_have_cause c r = is_live_in c r && not (is_nil r.log.items)
 
@@ -50,15 +50,15 @@ may_have_cause c r = is_live_in c r && not (is_nil r.log.items)
 abbrev pub conflict_meant : ℕ → ℕ → Changed → PlainCause
 conflict_meant j n c = InConflict (record { reader = n; read = c.number; writer = j; old = c.read.reply; new = c.now })
 
--- It is that conflict, if there is the read.
+-- This is the conflict of the reader of this number, if there is a changed read.
 abbrev pub IsConflict : ℕ → ℕ → Option ChangedOfProgram → Option Cause → Type 0
 IsConflict j n c x = option_map plain_of x ≡ option_map (conflict_meant j n) (option_map changed_of c)
 
--- It is the conflict of the reader with these writes, if that is live.
+-- This is the conflict of the reader with these writes, if the reader is live.
 abbrev pub IsConflictFor : Above → List Change → QueuedUpdate → Option Cause → Type 0
 IsConflictFor a ws r x = option_map plain_of x ≡ option_map (conflict_meant a.update (number_of r)) (first_changed_in a.rules a.whole a.sense (ws ∷ []) r)
 
--- The reader's footprint is that of its own writes and its reads.
+-- The reader's footprint covers its own writes and its reads.
 abbrev pub HasFootprint : QueuedUpdate → Type 0
 HasFootprint r = Covers r.footprint r.program.attempt.own (reads_in r.log.items)
 
@@ -66,20 +66,20 @@ HasFootprint r = Covers r.footprint r.program.attempt.own (reads_in r.log.items)
 abbrev pub HasImpact : Above → List Change → Impact → Type 0
 HasImpact a ws v = has_trails v a.rules a.sense (ws ∷ []) ≡ true
 
--- The trail has that of its writes, which went.
+-- The trail has the impact of its writes, which went.
 abbrev pub has_own_impact : List Rule → Trail → Bool
 has_own_impact ms t = has_trails t.impact ms Went (writes_of t ∷ [])
 
--- The trails of the members have theirs.
+-- Each of the members' trails has the impact of its writes.
 abbrev pub HasLostImpact : List Rule → Lost → Type 0
 HasLostImpact ms lost = list_all (has_own_impact ms) lost.members.items ≡ true
 
--- So many times no cause.
+-- No cause, for each of this number of updates.
 abbrev pub nones : ℕ → List (Option Cause)
 nones zero = []
 nones (suc n) = None ∷ nones n
 
--- The causes of the first readers, filled up to so many of them with none.
+-- The causes of the first readers, followed by none up to k readers.
 abbrev pub padded : ℕ → List (Option Cause) → List (Option Cause)
 padded k xs = xs ++ nones (k - length xs)
 
@@ -87,25 +87,25 @@ padded k xs = xs ++ nones (k - length xs)
 abbrev pub dependence_meant : List Rule → List Trail → ℕ → Numbered → PlainCause
 dependence_meant ms ks n t = Dependent (record { reader = n; read = t.number; on = least_writer ms t.read ks })
 
--- It is the dependence of the reader on what is lost below it, if that is live.
+-- This is the dependence of the reader on what is lost below it, if the reader is live.
 abbrev pub IsDependenceFor : Above → Lost → QueuedUpdate → Option Cause → Type 0
 IsDependenceFor a lost r x =
     option_map plain_of x
     ≡ (if is_nil lost.members.items then None else option_map (dependence_meant a.rules lost.members.items (number_of r)) (first_dependent a lost r))
 
--- Update n was its run over what lay below it before the event. Since then these writes came or went there, which gave the
--- whole; and these trails are lost, which leaves what is without them.
+-- Update n was its run over what lay below it before the event. Since then these writes came or went there, which gave `whole`;
+-- and these trails are lost, which leaves `without`.
 pub record RanBelow (ms : List Rule) (B : ℕ) (g : Sense) (ws : List Change) (trails : List (List Change)) (whole without : List Fact) (n : ℕ) (u : Update (caused_chase ms B)) : Type 0 where
   pub before : List Fact
   pub run : IsRun (caused_chase ms B) before n u
   pub event : AgreeBut g (ws ∷ []) before whole
   pub lost : AgreeBut Went trails whole without
 
--- Without writes there is no conflict to look for.
+-- If no conflict is looked for, there are no writes.
 abbrev pub LooksFor : Bool → List Change → Type 0
 LooksFor conflicting ws = conflicting ≡ false → ws ≡ []
 
--- It is why the reader is restarted.
+-- This is why the reader is restarted.
 abbrev pub IsCauseFor : Above → List Change → Lost → QueuedUpdate → Option Cause → Type 0
 IsCauseFor a ws lost r x =
     (B : ℕ) (conflicting : Bool) → 1 ≤ B → LooksFor conflicting ws
@@ -113,29 +113,29 @@ IsCauseFor a ws lost r x =
     → found_of a.rules B x
     ≡ cause_of (caused_chase a.rules B) a.deps conflicting a.committed a.update (seen (number_of r) a.whole) (seen (number_of r) lost.without) (members_of a.rules B lost.members.items) (number_of r) (update_of a.rules B r)
 
--- The reader has none, whatever the writes of that impact.
+-- The reader has no cause, whatever the writes of that impact.
 abbrev pub HasNoCause : Impact → Lost → QueuedUpdate → Type 0
 HasNoCause v lost r = (a : Above) (ws : List Change) → HasImpact a ws v → IsCauseFor a ws lost r None
 
--- Update n, where these were its writes, has lost them, and is the last of the members.
+-- Update n has lost these writes, its trail, and is the last of the members.
 pub record Loses (n : ℕ) (ws : List Change) (old new : Lost) : Type 0 where
   pub retracted : Retracted n ws old.without new.without
   pub joined : (ms : List Rule) (B : ℕ) → members_of ms B new.members.items ≡ members_of ms B old.members.items ++ record { number = n; trail = ws } ∷ []
 
--- What is lost below the next update, once this one has its say: it is restarted or not.
+-- What is lost below the next update, after it is decided whether this one is restarted.
 pub record LeavesLost (ms : List Rule) (B : ℕ) (restarts : Bool) (n : ℕ) (u : Update (caused_chase ms B)) (us : List (Update (caused_chase ms B))) (old new : Lost) : Type 0 where
   pub held : HoldFrom ms B (suc n) us new.without
   pub below : seen (suc n) new.without ≡ without_member (caused_chase ms B) restarts (seen n old.without) u
   pub members : members_of ms B new.members.items ≡ with_member (caused_chase ms B) restarts (members_of ms B old.members.items) n u
 
--- Whatever updates are above it.
+-- What is lost below the next update, whatever updates are above this one.
 abbrev pub LosesWhere : Bool → QueuedUpdate → Lost → Lost → Type 0
 LosesWhere restarts r old new =
     (ms : List Rule) (B : ℕ) (us : List (Update (caused_chase ms B))) → HoldFrom ms B (number_of r) (update_of ms B r ∷ us) old.without
     → LeavesLost ms B restarts (number_of r) (update_of ms B r) us old new
 
--- The queued updates, the first of which has number n, ran over what lay below them before the event. Both versions have
--- their trails; these writes came or went below them, and the trails of the members are lost.
+-- The queued updates, the first of which has number n, ran over what lay below them before the event. Both versions have their
+-- trails; these writes came or went below them, and the trails of the members are lost.
 pub record StandAbove (a : Above) (B : ℕ) (ws : List Change) (lost : Lost) (n : ℕ) (rs : List QueuedUpdate) : Type 0 where
   pub whole : HoldFrom a.rules B n (updates_of a.rules B rs) a.whole
   pub without : HoldFrom a.rules B n (updates_of a.rules B rs) lost.without
@@ -144,7 +144,7 @@ pub record StandAbove (a : Above) (B : ℕ) (ws : List Change) (lost : Lost) (n 
   pub event : AgreeBut a.sense (ws ∷ []) before (seen n a.whole)
   pub gone : AgreeBut Went (trails_of lost.members.items) (seen n a.whole) (seen n lost.without)
 
--- These are why each of the queued updates is restarted, which are those above the event's.
+-- This is why each of the queued updates above the event's is restarted.
 abbrev pub AreFound : Above → List Change → Lost → List QueuedUpdate → List (Option Cause) → Type 0
 AreFound a ws lost rs xs =
     (B : ℕ) (conflicting : Bool) → 1 ≤ B → LooksFor conflicting ws → StandAbove a B ws lost (suc a.update) rs

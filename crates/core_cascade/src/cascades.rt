@@ -16,9 +16,9 @@ use core_queue::{Deps, QueuedUpdate};
 use set_versions::Versions;
 use std::alloc::Global;
 
-/// What a walk upwards from the update of an event goes by: the mappings, how dependences are tested, how many updates
-/// were committed when the event began, the update's number, whether the writes of the event came or went, and the
-/// versions after them.
+/// What a walk upwards from the update of an event depends on: the mappings, how dependences are tested, how many updates were
+/// committed when the event began, the update's number, whether the writes of the event came or went, and the versions after
+/// them.
 #[derive(Drop)]
 pub struct Cascade<'a> {
     pub mappings: &'a Mappings<'a>,
@@ -30,9 +30,9 @@ pub struct Cascade<'a> {
 }
 
 impl<'a> Cascade<'a> {
-    /// Why each of the updates above is restarted, if it is, where the event's update wrote: a conflict with its writes, or else
-    /// a dependence on a lower one that is restarted. Handed in are the writes that came or went by the event. There is one
-    /// answer for each of the first, in order, up to the last that is restarted; of those behind them none is.
+    /// Why each of the updates above is restarted, if it is, after the event's update wrote: a conflict with its writes, or
+    /// else a dependence on a lower one that is restarted. `written` are the writes that came or went by the event. There
+    /// is one answer for each of the first updates above, up to the last that is restarted.
     pub fn causes_of_writes(
         &self,
         alloc: Global,
@@ -53,9 +53,9 @@ impl<'a> Cascade<'a> {
         Ok(found)
     }
 
-    /// Why each of the updates above is restarted, if it is, where the event's update loses its trail, which is handed in: a
-    /// dependence on it or on a lower one that is restarted. There is one answer for each of the first, in order, up to the last
-    /// that is restarted; of those behind them none is.
+    /// Why each of the updates above is restarted, if it is, after the event's update loses its trail: a dependence on it or on
+    /// a lower one that is restarted. There is one answer for each of the first updates above, up to the last that is
+    /// restarted.
     pub fn causes_of_loss(
         &self,
         alloc: Global,
@@ -76,8 +76,8 @@ impl<'a> Cascade<'a> {
         Ok(found)
     }
 
-    // Why each of the updates above is restarted, if it is, where these writes came or went and these trails are lost below
-    // them. Only the first may have read something, so many.
+    // Why each of the updates above is restarted, if it is, if these writes came or went and these trails are lost below them.
+    // Only the first `readers` of them may have read something.
     fn walk<'r>(
         &self,
         alloc: Global,
@@ -128,7 +128,7 @@ fn leaves_all(written: &[Write], lost: &Lost<'_>) -> bool
     lost.members.is_empty()
 }
 
-// Whether nothing gives the reader a cause: no trail is lost below it, and no write of that impact may meet a read of it.
+// Whether the reader has no cause: no trail is lost below it, and no write of that impact may meet a read of it.
 #[inline(always)]
 fn passes(impact: &Impact, lost: &Lost<'_>, reader: &QueuedUpdate) -> bool
     requires covers { HasFootprint reader.now }
@@ -142,7 +142,7 @@ fn passes(impact: &Impact, lost: &Lost<'_>, reader: &QueuedUpdate) -> bool
         .may_be_met(reader.program.direction(), impact)
 }
 
-// Puts the cause, if there is one, in its place behind those that were found; between them there is none.
+// Puts the cause, if there is one, in its place after those that were found; between them there is none.
 fn put_where(
     found: &mut Vec<Option<Cause>>,
     place: usize,
@@ -161,7 +161,7 @@ fn put_where(
     Ok(())
 }
 
-// Fills up to the place where there are causes, with none.
+// Adds none up to the place.
 fn pad(found: &mut Vec<Option<Cause>>, place: usize) -> Result<(), Memory>
     requires few { length found.old.items ≤ place }
     ensures padded { OnOk result (found.new.items ≡ padded place found.old.items) }

@@ -75,8 +75,8 @@ impl<'a> Cascade<'a> {
         Ok(cause)
     }
 
-    // The first read of the live reader that one of the writes meets and that has another value over what lies below it, if
-    // there is one.
+    // The conflict by the first read of the live reader that one of the writes meets and that has another value over what lies
+    // below it, if there is one.
     fn conflict_for(
         &self,
         alloc: Global,
@@ -104,7 +104,7 @@ impl<'a> Cascade<'a> {
         Ok(cause)
     }
 
-    // The conflict by the changed read of the reader of this number, if there is one.
+    // The conflict of the reader of this number by its changed read, if there is one.
     fn conflict_by(&self, reader: u32, changed: Option<Changed>) -> Option<Cause>
         ensures conflict { IsConflict self.now.update reader changed result }
     {
@@ -123,7 +123,7 @@ impl<'a> Cascade<'a> {
         }
     }
 
-    // The first read of the live reader that depends on the trails that are lost below it, if there is one.
+    // The dependence by the first read of the live reader that depends on the trails that are lost below it, if there is one.
     fn dependence_for(
         &self,
         alloc: Global,

@@ -61,7 +61,7 @@ impl<'r> Lost<'r> {
         Ok(())
     }
 
-    /// Loses the trail of the reader, where it is restarted.
+    /// Loses the trail of the reader, if it is restarted.
     pub(crate) fn lose_where(
         &mut self,
         alloc: Global,
@@ -81,7 +81,7 @@ impl<'r> Lost<'r> {
         Ok(())
     }
 
-    /// The first of the reads that mentions a relation of which a write is lost.
+    /// The first of the reads that mentions a relation of a lost write.
     pub(crate) fn first_reached(
         &self,
         alloc: Global,
@@ -102,7 +102,7 @@ impl<'r> Lost<'r> {
         Ok(None)
     }
 
-    // The first of the entry's reads that does, where so many reads come before it.
+    // The first of the entry's reads that mentions a relation of a lost write; `before` reads come before the entry.
     fn reached_by(
         &self,
         alloc: Global,
@@ -120,7 +120,7 @@ impl<'r> Lost<'r> {
         }
     }
 
-    // The same of the reads of a passage.
+    // The first of the passage's reads that mentions a relation of a lost write; `before` reads come before the passage.
     fn reached_in_passage(
         &self,
         alloc: Global,
@@ -144,8 +144,8 @@ impl<'r> Lost<'r> {
         Ok(None)
     }
 
-    // The read of this number, that the mapping has no violation by an attempt that had made so many writes, if it mentions
-    // such a relation.
+    // The read of this number, that the mapping has no violation for an attempt with `made` own writes, if it mentions a relation of
+    // a lost write.
     fn reached_mapping(
         &self,
         alloc: Global,
@@ -163,7 +163,7 @@ impl<'r> Lost<'r> {
         Ok(found)
     }
 
-    // The read of this number, if it mentions such a relation.
+    // The read of this number, if it mentions a relation of a lost write.
     fn reached_read(
         &self,
         alloc: Global,
@@ -183,7 +183,7 @@ impl<'r> Lost<'r> {
         }))
     }
 
-    /// The least update of which a lost write is of a relation that the read mentions; 0, which is no update, where none is.
+    /// The least update with a lost write of a relation that the read mentions; 0, which is no update, if there is none.
     pub(crate) fn writer_for(&self, mappings: &MappingList, read: &LoggedRead) -> u32
         ensures writer { result ≡
             least_writer (rules_in mappings.now) (read_of read.now) self.now.members.items }
@@ -207,7 +207,7 @@ fn reaches_any(members: &[Trail<'_>], mappings: &MappingList, read: &LoggedRead)
         .any(|member| reaches(member.writes, mappings, read))
 }
 
-// Whether the read mentions a relation of which one of the writes is.
+// Whether the read mentions the relation of one of the writes.
 fn reaches(trail: &[Write], mappings: &MappingList, read: &LoggedRead) -> bool
     ensures { result ≡
         is_reached (rules_in mappings.now) (read_of read.now) (map change_of trail.now) }

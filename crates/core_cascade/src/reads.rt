@@ -23,8 +23,8 @@ pub(crate) struct Numbered {
 }
 
 impl<'a> Cascade<'a> {
-    /// The first read of the reader that depends on what is lost: precisely, one that has another value without it; coarsely, one
-    /// that mentions a relation of it.
+    /// The first read of the reader that depends on what is lost: if the test is precise, one that has another value without
+    /// it; if it is coarse, one that mentions a relation of it.
     pub(crate) fn first_dependent(
         &self,
         alloc: Global,
@@ -62,8 +62,8 @@ impl<'a> Cascade<'a> {
         self.first_met(alloc, &lost.without, &met, reader)
     }
 
-    // The first read of the reader that a write of these trails meets and that has another value over these versions, which
-    // are without them.
+    // The first read of the reader that a write of these trails meets and that has another value over these versions, which do
+    // not have the trails.
     fn first_met(
         &self,
         alloc: Global,
@@ -91,7 +91,7 @@ impl<'a> Cascade<'a> {
         }
     }
 
-    // The trails that are lost of which a write may meet a read of the reader.
+    // The lost trails of which a write may meet a read of the reader.
     fn trails_met<'m>(
         &self,
         alloc: Global,

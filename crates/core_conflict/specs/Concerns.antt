@@ -1,4 +1,4 @@
--- Which writes may change the value of a read, and which repositories have the same tuples but for those of certain writes.
+-- Which writes may change the value of a read, and which repositories have the same tuples except those of certain writes.
 use Rattle.std.specs.Prelude.{◌≡◌, ℕ, ◌==◌, Bool, true, false, not, ◌&&◌, ◌||◌, if◌then◌else◌, List, take, length, Option, Some, None}
 use Rattle.std.specs.List.{list_any, list_all, zip, slice_get}
 use Rattle.def_chase.specs.Values.{Datum, Fact, same_datum, same_fact}
@@ -23,13 +23,13 @@ tuple_of (Delete t) = t
 abbrev pub columns : Pattern → Fact → List (Slot × Datum)
 columns a t = zip a.terms t.values
 
--- One binding may give the two terms these values: where they are one variable the values are the same.
+-- One binding may give the two terms these values: if they are the same variable, the values are the same.
 abbrev pub may_be : Slot → Datum → Slot → Datum → Bool
 may_be (Var v) d (Var w) e = not (v == w) || same_datum d e
 may_be (Var v) d (Const c) e = true
 may_be (Const c) d q e = true
 
--- The same of two columns.
+-- One binding may give the terms of the two columns their values.
 abbrev pub agree : Slot × Datum → Slot × Datum → Bool
 agree p q = may_be p.0 p.1 q.0 q.1
 
@@ -42,8 +42,8 @@ abbrev pub stand_together : Pattern → Fact → Pattern → Fact → Bool
 stand_together a s c t =
     (c.relation == t.relation) && ((a.relation == s.relation) && (has_columns a s && list_all (λ p. list_all (agree p) (columns c t)) (columns a s)))
 
--- The atoms among which a violation that own writes caused has the tuple of one of them: forward those on the left, backward
--- those on the right.
+-- The atoms at one of which stands the own write that caused a violation: forward the atoms on the left, backward those on the
+-- right.
 abbrev pub seats : Direction → Rule → List Pattern
 seats Forward m = m.left
 seats Backward m = m.right
@@ -53,35 +53,35 @@ abbrev pub is_forward : Direction → Bool
 is_forward Forward = true
 is_forward Backward = false
 
--- The write may be the one: forward an insertion, backward a deletion.
+-- A write of this kind may cause violations in this direction: forward an insertion, backward a deletion.
 abbrev pub may_cause : Direction → Change → Bool
 may_cause h (Insert s) = is_forward h
 may_cause h (Delete s) = not (is_forward h)
 
--- With the first tuple at one of the seats the second may stand at one of these atoms.
+-- With the first tuple at one of the seats, the second may stand at one of these atoms.
 abbrev pub may_join : List Pattern → List Pattern → Fact → Fact → Bool
 may_join as' cs s t = list_any (λ a. list_any (λ c. stand_together a s c t) cs) as'
 
--- The write may cause a violation of the mapping in which this tuple stands at one of them.
+-- The write may cause a violation of the mapping in which this tuple stands at one of these atoms.
 abbrev pub joins : Direction → List Pattern → Rule → Fact → Change → Bool
 joins h cs m t w = may_cause h w && may_join (seats h m) cs (tuple_of w) t
 
--- One of the own writes may.
+-- One of the own writes may cause a violation of the mapping in which this tuple stands at one of these atoms.
 abbrev pub joins_own : Direction → List Pattern → Rule → List Change → Fact → Bool
 joins_own h cs m own t = list_any (joins h cs m t) own
 
--- With the tuple on the right of the mapping such a violation may be met. Backward any tuple of a relation on the right may,
--- since the variables that are on the right alone may stand for other values than in the tuple that was deleted.
+-- A violation that own writes caused may be met with the tuple on the right of the mapping. Backward any tuple of a relation on
+-- the right may do so, since an existential variable may stand for another value than in the tuple that was deleted.
 abbrev pub meets_right : Direction → Rule → List Change → Fact → Bool
 meets_right Forward m own t = joins_own Forward m.right m own t
 meets_right Backward m own t = list_any (λ c. c.relation == t.relation) m.right
 
--- On the left such a violation may have the tuple, on the right the tuple may meet it.
+-- On the left, such a violation may have the tuple; on the right, the tuple may meet it.
 abbrev pub at_side : Bool → Direction → Rule → List Change → Fact → Bool
 at_side true h m own t = joins_own h m.left m own t
 at_side false h m own t = meets_right h m own t
 
--- Either is so.
+-- Such a violation may have the tuple on the left, or be met with it on the right.
 abbrev pub joins_either : Direction → Rule → List Change → Fact → Bool
 joins_either h m own t = at_side true h m own t || at_side false h m own t
 
@@ -89,7 +89,7 @@ joins_either h m own t = at_side true h m own t || at_side false h m own t
 abbrev pub may_enact : Change → Bool
 may_enact w = (tuple_of w).relation == force_relation
 
--- Tuples that join with no own write may decide violations as well: forward, where own writes put mappings in force.
+-- Tuples that join with no own write may decide violations as well: forward, if own writes put mappings in force.
 abbrev pub counts_all : Direction → List Change → Bool
 counts_all Forward own = list_any may_enact own
 counts_all Backward own = false
@@ -100,45 +100,45 @@ abbrev pub concerns_rule : Direction → List Change → Option Rule → Fact �
 concerns_rule h own None t = false
 concerns_rule h own (Some m) t = (counts_all h own && rule_mentions (Some m) t.relation) || joins_either h m own t
 
--- ---- violations where there was none
+-- ---- violations that were not there before
 
 -- The writes came.
 abbrev pub has_come : Sense → Bool
 has_come Came = true
 has_come Went = false
 
--- The tuple of the write is there since and was not before: an insertion that came, or a deletion that went. That of any
--- other write was there before and is not since.
+-- The tuple of the write is there now and was not before: an insertion that came, or a deletion that went. The tuple of any
+-- other write was there before and is not now.
 abbrev pub adds : Sense → Change → Bool
 adds g (Insert t) = has_come g
 adds g (Delete t) = not (has_come g)
 
--- A violation that own writes cause may be made where there was none: a tuple that is there since stands on the left of it, or
--- one that was there before met it on the right.
+-- The write may make a violation that own writes cause and that was not there before: a tuple that is there now stands on the
+-- left of it, or one that was there before met it on the right.
 abbrev pub breaks : Direction → Rule → Sense → List Change → Change → Bool
 breaks h m g own w = at_side (adds g w) h m own (tuple_of w)
 
--- The write may make a violation of the mapping that own writes caused, where there was none: it breaks the mapping, or they
--- put mappings in force and its tuple is of a relation of the mapping.
+-- The write may make a violation of the mapping that own writes caused and that was not there before: it breaks the mapping, or
+-- they put mappings in force and its tuple is of a relation of the mapping.
 abbrev pub may_make : Direction → List Change → Sense → Option Rule → Change → Bool
 may_make h own g None w = false
 may_make h own g (Some m) w = (counts_all h own && rule_mentions (Some m) (tuple_of w).relation) || breaks h m g own w
 
--- It breaks one of the mappings.
+-- The write breaks one of the mappings.
 abbrev pub breaks_some : List Rule → Direction → Sense → List Change → Change → Bool
 breaks_some ms h g own w = list_any (λ m. breaks h m g own w) ms
 
 -- ---- queries
 
--- The tuple concerns the query of an attempt in this direction with these own writes: it is the one asked for, it may decide the
--- violation asked for, it is more specific than the one asked for, or it holds the null asked for.
+-- The tuple concerns the query of an attempt in this direction with these own writes: it is the tuple asked for, it may decide
+-- the violation asked for, it is more specific than the tuple asked for, or it holds the null asked for.
 abbrev pub concerns : List Rule → Direction → List Change → Query → Fact → Bool
 concerns ms h own (Present t) s = same_fact t s
 concerns ms h own (Violation n) s = concerns_rule h own (slice_get ms n) s
 concerns ms h own (Specific t) s = more_specific s t
 concerns ms h own (Occurs u k) s = holds_null u k s
 
--- The write may make a violation that the query asks for, or its tuple concerns another query.
+-- The write may make a violation that the query asks for; for any other query, its tuple concerns the query.
 abbrev pub may_violate : List Rule → Direction → List Change → Sense → Query → Change → Bool
 may_violate ms h own g (Present t) w = concerns ms h own (Present t) (tuple_of w)
 may_violate ms h own g (Violation n) w = may_make h own g (slice_get ms n) w
@@ -162,11 +162,12 @@ is_nothing (Image ts) = false
 is_nothing Nothing = true
 is_nothing (Tuples ts) = false
 
--- It was asked for a violation, and found none.
+-- The read asked for a violation, and found none.
 abbrev pub found_none : Read → Bool
 found_none r = asks_violation r.query && is_nothing r.reply
 
--- The write meets the read: it may make a violation where the read found none, and else its tuple concerns the query.
+-- The write meets the read: if the read's reply is that there is no violation, the write may make one; else its tuple concerns
+-- the query.
 abbrev pub meets : List Rule → Direction → List Change → Sense → Read → Change → Bool
 meets ms h own g r w = if is_nothing r.reply then may_violate ms h own g r.query w else concerns ms h own r.query (tuple_of w)
 
@@ -178,30 +179,30 @@ is_hit p trails = list_any (list_any p) trails
 abbrev pub is_met : List Rule → Direction → List Change → Sense → List (List Change) → Read → Bool
 is_met ms h own g trails r = is_hit (meets ms h own g r) trails
 
--- One does, and the read asked for no violation or found one.
+-- A write of one of the trails meets the read, and the read asked for no violation or found one.
 abbrev pub is_met_apart : List Rule → Direction → List Change → Sense → List (List Change) → Read → Bool
 is_met_apart ms h own g trails r = if found_none r then false else is_met ms h own g trails r
 
 -- ---- what differs
 
--- The write is of the tuple, and the tuple is there since.
+-- The write is of the tuple, and the tuple is there now and was not before.
 abbrev pub adds_it : Sense → Fact → Change → Bool
 adds_it g t w = adds g w && same_fact (tuple_of w) t
 
--- It is of the tuple, and the tuple was there before.
+-- The write is of the tuple, and the tuple was there before and is not now.
 abbrev pub takes_it : Sense → Fact → Change → Bool
 takes_it g t w = not (adds g w) && same_fact (tuple_of w) t
 
--- Two repositories have the same tuples but for those of which a write of these trails is: what the second alone has is there
--- since a write of it came or went, and what the first alone has was there before.
+-- The two repositories have the same tuples except those of the writes of these trails. A tuple that only the second has is
+-- there since a write of it came or went. A tuple that only the first has was there before.
 pub record AgreeBut (g : Sense) (trails : List (List Change)) (D E : List Fact) : Type 0 where
   pub sorted : IsRepository D
   pub also : IsRepository E
   pub since : (t : Fact) → is_hit (adds_it g t) trails ≡ false → has E t ≡ true → has D t ≡ true
   pub before : (t : Fact) → is_hit (takes_it g t) trails ≡ false → has D t ≡ true → has E t ≡ true
 
--- Where a read's reply is the value of its query over the first, with the own writes that had been made, and no write of the
--- trails meets it, it is that over the second.
+-- If a read's reply is the value of its query over the first repository, with the own writes made until then, and no write of
+-- the trails meets it, the reply is the value over the second one too.
 abbrev pub UnmetValuesStay : Type 0
 UnmetValuesStay =
     (ms : List Rule) (h : Direction) (own : List Change) (r : Read) (g : Sense) (trails : List (List Change)) (D E : List Fact)

@@ -1,4 +1,4 @@
--- What is looked for while the reads of an attempt are gone through, and what its view is then.
+-- The search through the reads of an attempt, and its view during the search.
 use Rattle.std.specs.Prelude.{◌≡◌, ◌≤◌, ℕ, List, take, length, map, Option}
 use Rattle.base_types.specs.Contents.{rules_in}
 use Rattle.base_types.specs.Meanings.{change_of, heading_of}
@@ -16,8 +16,8 @@ pub record SeesFirst (D : List Fact) (own : List Change) (n : ℕ) (v : Seen) : 
   pub few : n ≤ length own
   pub seen : v ≡ record { below = D; own = take n own }
 
--- The first of these reads, of which the first has number n, that the trails meet and that has another value over D, by what
--- the reader is.
+-- The first of these reads that the trails meet and whose value over D differs, for this reader; the first of the list has
+-- number n.
 abbrev pub changed_from : Reader → List Trail → List Fact → ℕ → List Read → Option Changed
 changed_from r trails D n rs =
     first_changed_from (rules_in r.mappings.now) (heading_of r.direction) D (map change_of r.own.now) r.sense (trails_of trails) n rs

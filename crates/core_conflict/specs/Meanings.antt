@@ -1,4 +1,4 @@
--- What is found of changed reads.
+-- What the search for changed reads returns.
 use Rattle.chase_query.specs.Meanings.{read_of, reply_of}
 use Rattle.core_conflict.specs.Changes as meant
 use Rattle.core_conflict.specs.declared.changes.Changed.{Changed}

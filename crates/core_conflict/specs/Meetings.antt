@@ -1,4 +1,4 @@
--- Where an attempt has to do with writes, and where it has not.
+-- When no write meets a read of an attempt.
 use Rattle.std.specs.Prelude.{◌≡◌, true, false, List}
 use Rattle.def_chase.specs.Mappings.{Rule}
 use Rattle.def_chase.specs.Repository.{Change}
@@ -19,12 +19,12 @@ pub record IsOutside (s : Signature) (v : Reach) : Type 0 where
   pub apart : AreApart s v.own
   pub some : v.every ≡ false
 
--- No own write joins with one of the writes; backward the attempt found no violation either.
+-- No own write joins with one of the writes; backward the attempt has not found a violation either.
 abbrev pub IsJoinless : Direction → Footprint → Impact → Type 0
 IsJoinless Forward f v = IsOutside f.own v.forward
 IsJoinless Backward f v = IsOutside f.own v.backward × (f.found ≡ false)
 
--- Whatever attempt in this direction has the footprint, and whatever writes have the impact: none of them meets a read of it.
+-- No write of the impact meets a read of an attempt in this direction with the footprint.
 abbrev pub IsNoneMet : Direction → Footprint → Impact → Type 0
 IsNoneMet h f v =
     (ms : List Rule) (g : Sense) (own : List Change) (trails : List (List Change)) (rs : List Read)

@@ -1,4 +1,5 @@
--- Which tuples concern which queries, and which writes meet which reads, row by row: of an attempt that inserted A(1, 2), over one mapping A(x, y), B(y, z) -> C(x, z).
+-- Which tuples concern which queries, and which writes meet which reads, row by row. The attempt inserted A(1, 2), and the one
+-- mapping is A(x, y), B(y, z) -> C(x, z).
 use Rattle.std.specs.Prelude.{◌≡◌, ℕ, Bool, true, false, List, [], ◌∷◌, pos}
 use Rattle.def_chase.specs.Values.{Number, Fact}
 use Rattle.def_chase.specs.Repository.{Change, Insert, Delete}
@@ -54,9 +55,9 @@ pub record ConcernRows : Type 0 where
   -- a deletion causes nothing forward, and neither does an insertion of another relation
   pub deleted : decides (Delete (pair 0 1 2) ∷ []) (pair 1 2 5) ≡ false
   pub elsewhere : decides (Insert (pair 3 1 2) ∷ []) (pair 1 2 5) ≡ false
-  -- where the attempt put the mapping in force each tuple of its relations may decide
+  -- if the attempt put the mapping in force, each tuple of its relations may decide
   pub enacted : decides (Insert (force 0) ∷ []) (pair 1 3 5) ≡ true
-  -- backward a tuple on the left decides where it joins with a deletion, and on the right each does
+  -- backward a tuple on the left decides if it joins with a deletion, and on the right each does
   pub backward : concerns join Backward (Delete (pair 2 1 9) ∷ []) (Violation 0) (pair 0 1 7) ≡ true
   pub beside_it : concerns join Backward (Delete (pair 2 1 9) ∷ []) (Violation 0) (pair 0 4 7) ≡ false
   pub on_right : concerns join Backward (Delete (pair 2 1 9) ∷ []) (Violation 0) (pair 2 4 8) ≡ true
@@ -72,20 +73,20 @@ pub record ConcernRows : Type 0 where
   pub left_goes : hits Came in_vain (Delete (pair 1 2 5)) ≡ false
   pub right_comes : hits Came in_vain (Insert (pair 2 1 9)) ≡ false
   pub right_goes : hits Came in_vain (Delete (pair 2 1 9)) ≡ true
-  -- where an insertion went its tuple is gone, and where a deletion went its tuple is there since
+  -- if an insertion went, its tuple is gone; if a deletion went, its tuple is there now
   pub left_undone : hits Went in_vain (Insert (pair 1 2 5)) ≡ false
   pub right_undone : hits Went in_vain (Insert (pair 2 1 9)) ≡ true
   pub given_back : hits Went in_vain (Delete (pair 1 2 5)) ≡ true
-  -- neither does where the tuple joins with none that the attempt wrote
+  -- a write does not meet it if its tuple joins with none that the attempt wrote
   pub joins_none : hits Came in_vain (Insert (pair 1 3 5)) ≡ false
   -- one that found a violation is met by each that joins
   pub found_comes : hits Came found (Insert (pair 2 1 9)) ≡ true
   pub found_goes : hits Came found (Delete (pair 1 2 5)) ≡ true
-  -- backward too what comes meets it on the left, and what goes on the right
+  -- backward too, what comes meets it on the left, and what goes on the right
   pub back_comes : meets join Backward (Delete (pair 2 1 9) ∷ []) Came in_vain (Insert (pair 0 1 7)) ≡ true
   pub back_goes : meets join Backward (Delete (pair 2 1 9) ∷ []) Came in_vain (Delete (pair 0 1 7)) ≡ false
   pub back_right : meets join Backward (Delete (pair 2 1 9) ∷ []) Came in_vain (Insert (pair 2 4 9)) ≡ false
-  -- where the attempt put the mapping in force each write of its relations meets both
+  -- if the attempt put the mapping in force, each write of its relations meets both
   pub all_enacted : meets join Forward (Insert (force 0) ∷ []) Came in_vain (Insert (pair 2 4 9)) ≡ true
   -- trails meet a read by any of their writes
   pub trails : is_met join Forward wrote Came ((Insert (pair 1 3 5) ∷ []) ∷ (Insert (pair 3 0 0) ∷ Insert (pair 1 2 5) ∷ []) ∷ []) in_vain ≡ true

@@ -13,16 +13,16 @@ has_spot s k = (bit_at s.low (k / 128) == 1) && (bit_at s.high (k % 128) == 1)
 abbrev pub IsWithin : Signature → Signature → Type 0
 IsWithin s t = (k : ℕ) → has_spot s k ≡ true → has_spot t k ≡ true
 
--- They have no spot in common.
+-- The sets have no spot in common.
 abbrev pub AreApart : Signature → Signature → Type 0
 AreApart s t = (k : ℕ) → has_spot s k ≡ true → has_spot t k ≡ false
 
--- A number by which a word is told from most others, byte by byte.
+-- A number that differs between most words, computed byte by byte.
 abbrev pub digest_from : ℕ → List ℕ → ℕ
 digest_from n [] = n
 digest_from n (b ∷ bs) = digest_from ((n * 31 + b) % 65521) bs
 
--- The same of a value.
+-- A number that differs between most values.
 abbrev pub digest : Datum → ℕ
 digest (Number i) = unsigned_abs i
 digest (Text w) = digest_from 0 w
@@ -41,12 +41,12 @@ abbrev pub has_values : Signature → ℕ → ℕ → List Datum → Bool
 has_values s r k [] = true
 has_values s r k (d ∷ ds) = has_spot s (spot r k d) && has_values s r (suc k) ds
 
--- It has the spots of all values of the tuple.
+-- The set has the spots of all values of the tuple.
 abbrev pub has_tuple : Signature → Fact → Bool
 has_tuple s t = has_values s t.relation 0 t.values
 
--- A spot of each tuple that is more specific than one of relation r with these values from column k on: that of the first
--- constant, or that of the relation where there is none.
+-- A spot of each tuple that is more specific than a tuple of relation r with these values from column k on: the spot of the
+-- first constant, or of the relation if there is no constant.
 abbrev pub spot_asked : ℕ → ℕ → List Datum → ℕ
 spot_asked r k [] = home r
 spot_asked r k (d ∷ ds) = if is_constant d then spot r k d else spot_asked r (suc k) ds

@@ -8,6 +8,6 @@ use Rattle.core_conflict.specs.declared.concerns.Trail.{Trail}
 abbrev pub writes_of : Trail → List Change
 writes_of t = map change_of t.writes.now
 
--- Those of each of the trails.
+-- The writes of each of the trails.
 abbrev pub trails_of : List Trail → List (List Change)
 trails_of ts = map writes_of ts

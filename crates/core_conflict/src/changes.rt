@@ -16,8 +16,7 @@ use chase_eval::View;
 use chase_query::{Logged, LoggedRead, Passage, Reply, finds_none};
 use std::alloc::Global;
 
-/// A logged read that has another value now: its number in the log, from 1, the read with the answer that it had, and its
-/// value now.
+/// A logged read that has another value now: its number in the log, from 1; the read with its old answer; and its value now.
 #[derive(Drop)]
 pub struct Changed {
     pub number: u64,
@@ -25,8 +24,8 @@ pub struct Changed {
     pub now: Reply,
 }
 
-/// The first read of the log that a write of these trails meets and that has another value now, by the reader that logged it,
-/// where the facts lie below it; the writes came since the reads were made, or went.
+/// Finds the first read of the log that a write of these trails meets and whose value over `below` differs from its answer. The
+/// writes came or went, as `reader.sense` says, after the reader made its reads.
 pub fn first_changed<F: Facts>(
     alloc: Global,
     reader: &Reader<'_>,
@@ -76,7 +75,7 @@ fn changed_in<'a, F: Facts>(
     Ok(None)
 }
 
-// The first of the entry's reads that is met and has another value now, where so many reads come before it.
+// The first of the entry's reads that is met and has another value now; `before` reads come before the entry.
 fn changed_by<'a, F: Facts>(
     alloc: Global,
     reader: &Reader<'_>,
@@ -104,7 +103,8 @@ fn changed_by<'a, F: Facts>(
     }
 }
 
-// The same of the reads of a passage: of each mapping that it has no violation, by an attempt that had made so many writes.
+// The first read of the passage that is met and has another value now; `before` reads come before the passage. Each of its
+// reads found that one mapping has no violation.
 fn changed_in_passage<'a, F: Facts>(
     alloc: Global,
     reader: &Reader<'_>,

@@ -15,7 +15,7 @@ use base_types::{Direction, MappingList, Tuple, Value, Write};
 use chase_query::{Logged, LoggedRead, Query, Reply};
 use chase_unifier::is_more_specific;
 
-/// Writes of one update, with its number, and what an attempt must have to do with them for one to meet a read of it.
+/// The writes of one update, with its number and their impact, which shows quickly which attempts they do not meet.
 #[derive(Drop)]
 pub struct Trail<'r> {
     pub update: u32,
@@ -23,15 +23,15 @@ pub struct Trail<'r> {
     pub impact: Impact,
 }
 
-/// How the writes of a trail turned what lies below a reader: they came since it asked, or were there then and went.
+/// How the writes of a trail changed what lies below a reader: they came after it asked, or were there then and went.
 #[derive(Clone, Copy, Debug, PartialEq, Eq)]
 pub enum Sense {
     Came,
     Went,
 }
 
-/// An attempt whose logged reads are looked at: the mappings, its direction, its own writes, and how the writes of the trails
-/// turned what lies below it.
+/// An attempt whose logged reads are looked at: the mappings, its direction, its own writes, and whether the writes of the
+/// trails came or went below it.
 #[derive(Drop)]
 pub struct Reader<'r> {
     pub mappings: &'r MappingList,
@@ -41,8 +41,8 @@ pub struct Reader<'r> {
 }
 
 impl<'r> Reader<'r> {
-    /// Whether a write of one of the trails may meet a read of the log. Where it says no, none does. It goes by the mappings
-    /// once, and not by each read that found no violation.
+    /// Whether a write of one of the trails may meet a read of the log; if `false`, none does. The reads that found no
+    /// violation are not tested one by one: each mapping is tested once for all of them.
     pub(crate) fn may_be_met(&self, trails: &[Trail<'_>], log: &[Logged]) -> bool
         ensures unmet { result ≡ false → meets_any (rules_in self.now.mappings.now)
             (heading_of self.now.direction) (map change_of self.now.own.now) self.now.sense
@@ -81,7 +81,7 @@ impl<'r> Reader<'r> {
         ))
     }
 
-    // Whether a write of one of the trails meets a read of the log, of those that asked for no violation or found one.
+    // Whether a write of one of the trails meets a read of the log that is no search for a violation, or found one.
     fn meets_apart(&self, trails: &[Trail<'_>], log: &[Logged]) -> bool
         ensures { result ≡ meets_any_apart (rules_in self.now.mappings.now)
             (heading_of self.now.direction) (map change_of self.now.own.now) self.now.sense
@@ -91,7 +91,8 @@ impl<'r> Reader<'r> {
             .any(|entry| self.meets_entry_apart(trails, entry))
     }
 
-    // Whether one meets a read of the entry. Those that a look passed found none.
+    // Whether a write of one of the trails meets such a read of the entry. A passage has none: all its reads found no
+    // violation.
     fn meets_entry_apart(&self, trails: &[Trail<'_>], entry: &Logged) -> bool
         ensures { result ≡ meets_any_apart (rules_in self.now.mappings.now)
             (heading_of self.now.direction) (map change_of self.now.own.now) self.now.sense
@@ -103,7 +104,7 @@ impl<'r> Reader<'r> {
         }
     }
 
-    // Whether the read asked for no violation or found one, and a write of one of the trails meets it.
+    // Whether the read is no search for a violation, or found one, and a write of one of the trails meets it.
     fn is_met_apart(&self, trails: &[Trail<'_>], read: &LoggedRead) -> bool
         ensures { result ≡ is_met_apart (rules_in self.now.mappings.now)
             (heading_of self.now.direction) (map change_of self.now.own.now) self.now.sense
@@ -135,8 +136,8 @@ impl<'r> Reader<'r> {
         writes.iter().any(|write| self.meets(write, read))
     }
 
-    // Whether the write meets the read: it may make a violation where the read found none, and else its tuple concerns the
-    // query.
+    // Whether the write meets the read. If the read found no violation, the write meets it if it may make one; else, if the
+    // write's tuple concerns the query.
     fn meets(&self, write: &Write, read: &LoggedRead) -> bool
         ensures { result ≡ meets_def (rules_in self.now.mappings.now)
             (heading_of self.now.direction) (map change_of self.now.own.now) self.now.sense
@@ -151,7 +152,8 @@ impl<'r> Reader<'r> {
         }
     }
 
-    // Whether the write may make a violation that the query asks for, or its tuple concerns another query.
+    // Whether the write may make a violation that the query asks for; for any other query, whether its tuple concerns the
+    // query.
     fn may_violate(&self, query: &Query, write: &Write) -> bool
         ensures { result ≡ may_violate_def (rules_in self.now.mappings.now)
             (heading_of self.now.direction) (map change_of self.now.own.now) self.now.sense
@@ -168,8 +170,8 @@ impl<'r> Reader<'r> {
         }
     }
 
-    // Whether the tuple concerns the query: it is the one asked for, it may decide the violation asked for, it is more
-    // specific than the one asked for, or it holds the null asked for.
+    // Whether the tuple concerns the query: it is the tuple asked for, it may decide the violation asked for, it is more
+    // specific than the tuple asked for, or it holds the null asked for.
     fn concerns(&self, query: &Query, tuple: &Tuple) -> bool
         ensures { result ≡ concerns_def (rules_in self.now.mappings.now)
             (heading_of self.now.direction) (map change_of self.now.own.now)
@@ -187,7 +189,7 @@ impl<'r> Reader<'r> {
     }
 }
 
-// Whether the read asked for a violation, and was answered that there is none.
+// Whether the read asked for a violation, and the answer is that there is none.
 fn found_none(read: &LoggedRead) -> bool
     ensures { result ≡ found_none_def (read_of read.now) }
 {

@@ -1,4 +1,5 @@
-//! What an attempt has written and asked, so far as a write below it must have to do with it to meet one of its reads.
+//! Footprints: a summary of what an attempt has written and asked, which shows quickly that a write below it meets none of its
+//! reads.
 ghost use Rattle.std.specs.Prelude.{◌≡◌, ◌<◌, ◌||◌, false, true, [], map};
 ghost use Rattle.std.specs.List.{list_all};
 ghost use Rattle.base_types.specs.Meanings.{change_of, datum_of, fact_of, heading_of};
@@ -16,8 +17,8 @@ use crate::signatures::{Signature, home, spot};
 use base_types::{Direction, Tuple, Value, Write};
 use chase_query::{Logged, LoggedRead, Query, Reply};
 
-/// Where the values lie that an attempt has written, and those that it has asked for; whether it has found a violation; and
-/// whether any write at all may meet one of its reads.
+/// A summary of an attempt's writes and reads: the spots of the values that it wrote (`own`) and asked for (`asked`), whether
+/// it found a violation, and whether any write at all may meet one of its reads (`exposed`).
 #[derive(Clone, Copy, Debug)]
 pub struct Footprint {
     pub(crate) exposed: bool,
@@ -27,7 +28,7 @@ pub struct Footprint {
 }
 
 impl Footprint {
-    /// That of an attempt at its start.
+    /// The footprint of an attempt at its start.
     pub fn empty() -> Footprint
         ensures covers { Covers result [] [] }
     {
@@ -39,7 +40,7 @@ impl Footprint {
         }
     }
 
-    /// That of the attempt once it has made these own writes and these reads more.
+    /// The footprint of the attempt after these further own writes and reads.
     pub fn after(self, writes: &[Write], reads: &[Logged]) -> Footprint
         ensures covers { CoversMore self (map change_of writes.now) (reads_in reads.now)
             result }
@@ -53,7 +54,7 @@ impl Footprint {
         }
     }
 
-    // With these reads more.
+    // The footprint with these further reads.
     fn asking(self, reads: &[Logged]) -> Footprint
         ensures more { ReadsMore self result }
         ensures has { list_all (has_read result) (reads_in reads.now) ≡ true }
@@ -65,7 +66,7 @@ impl Footprint {
         more
     }
 
-    // With the reads of one entry more. Every footprint has those that a look passed.
+    // The footprint with the further reads of one entry. A passage adds nothing, since its reads found no violation.
     fn asking_by(self, entry: &Logged) -> Footprint
         ensures more { ReadsMore self result }
         ensures has { list_all (has_read result) (reads_of entry.now) ≡ true }
@@ -76,7 +77,7 @@ impl Footprint {
         }
     }
 
-    // With one read more.
+    // The footprint with one further read.
     fn asking_one(self, read: &LoggedRead) -> Footprint
         ensures more { ReadsMore self result }
         ensures has { has_read result (read_of read.now) ≡ true }
@@ -89,7 +90,7 @@ impl Footprint {
         }
     }
 
-    // With a tuple that was asked for, which has a value there.
+    // The footprint with this spot of a tuple that was asked for.
     fn asking_at(self, spot: u32) -> Footprint
         requires { spot < 16384 }
         ensures more { ReadsMore self result }
@@ -103,7 +104,7 @@ impl Footprint {
         }
     }
 
-    // With this answer to a question for a violation.
+    // The footprint with this answer to a search for a violation.
     fn finding(self, answer: &Reply) -> Footprint
         ensures more { ReadsMore self result }
         ensures has { (is_nothing_def (reply_of answer.now) || result.found) ≡ true }
@@ -117,7 +118,7 @@ impl Footprint {
         }
     }
 
-    // Any write may meet a read.
+    // The footprint of an attempt of which any write may meet a read.
     fn exposed(self) -> Footprint
         ensures more { ReadsMore self result }
         ensures exposed { result.exposed ≡ true }
@@ -130,7 +131,7 @@ impl Footprint {
         }
     }
 
-    /// Whether a write of that impact may meet a read of the attempt, which goes in this direction.
+    /// Whether a write of that impact may meet a read of the attempt, which goes in this direction. If `false`, none does.
     #[inline(always)]
     pub fn may_be_met(&self, direction: Direction, impact: &Impact) -> bool
         ensures unmet { result ≡ false → IsNoneMet (heading_of direction) self.now impact.now }
@@ -141,7 +142,7 @@ impl Footprint {
         self.may_join(direction, impact)
     }
 
-    // Whether own writes may join with one of the writes, or a violation was found backward.
+    // Whether own writes may join with one of the writes; backward also whether the attempt found a violation.
     #[inline(always)]
     fn may_join(&self, direction: Direction, impact: &Impact) -> bool
         ensures joinless { result ≡ false → IsJoinless (heading_of direction) self.now impact.now }
@@ -181,7 +182,7 @@ pub(crate) fn with_values(signature: Signature, tuple: &Tuple) -> Signature
     with_each(signature, tuple.relation, tuple.values.as_slice())
 }
 
-// The same of the relation and the values of a tuple.
+// The signature with the values of a tuple of the relation, column by column.
 fn with_each(signature: Signature, relation: u16, values: &[Value]) -> Signature
     ensures more { IsWithin signature result }
     ensures has { has_values result relation 0 (map datum_of values.now) ≡ true }
@@ -195,8 +196,8 @@ fn with_each(signature: Signature, relation: u16, values: &[Value]) -> Signature
     all
 }
 
-// Where a tuple must have a value that is the one asked for, or more specific: at the first constant, or anywhere where there
-// is none.
+// A spot that each tuple has that is equal to the one asked for or more specific: the spot of its first constant, or of its
+// relation if it has no constant.
 fn asked(tuple: &Tuple) -> u32
     ensures spot { result ≡ spot_asked tuple.now.relation 0 (fact_of tuple.now).values }
     ensures below { result < 16384 }
@@ -204,7 +205,7 @@ fn asked(tuple: &Tuple) -> u32
     asked_in(tuple.relation, tuple.values.as_slice())
 }
 
-// The same of the relation and the values of a tuple.
+// A spot that each tuple has that is equal to the tuple of this relation with these values, or more specific.
 fn asked_in(relation: u16, values: &[Value]) -> u32
     ensures spot { result ≡ spot_asked relation 0 (map datum_of values.now) }
     ensures below { result < 16384 }

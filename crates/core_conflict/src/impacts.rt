@@ -1,4 +1,5 @@
-//! What an attempt must have written or asked for a write to meet one of its reads.
+//! Impacts: a summary of writes, which tells what an attempt must have written or asked for so that one of them may meet a
+//! read.
 ghost use Rattle.std.specs.Prelude.{◌≡◌, ◌==◌, ◌||◌, true, map};
 ghost use Rattle.std.specs.Option.{option_map, option_copied};
 ghost use Rattle.std.specs.List.{list_all, zip};
@@ -14,14 +15,14 @@ use crate::joins::{adds, stands_in};
 use crate::signatures::{Signature, home, spot};
 use base_types::{Atom, Mapping, MappingList, Term, Tuple, Value, Write};
 
-/// Where an own write must have a value to join with one of the writes; or whether any may.
+/// The spots of the own writes that may join with one of the writes, or, if `every` is set, any own write.
 #[derive(Clone, Copy, Debug)]
 pub(crate) struct Reach {
     pub(crate) every: bool,
     pub(crate) own: Signature,
 }
 
-/// What an attempt must have written, forward and backward, or asked for, for one of the writes to meet a read of it.
+/// What an attempt must have written, forward or backward, or asked for, so that one of the writes may meet a read of it.
 #[derive(Clone, Copy, Debug)]
 pub struct Impact {
     pub(crate) forward: Reach,
@@ -37,7 +38,7 @@ pub(crate) struct Key<'t> {
 }
 
 impl Impact {
-    /// That of no write.
+    /// The impact of no write.
     pub fn none() -> Impact {
         Impact {
             forward: Reach::none(),
@@ -46,7 +47,7 @@ impl Impact {
         }
     }
 
-    /// That of these writes more, which came or went.
+    /// The impact with these further writes, which came or went.
     pub fn with(self, mappings: &MappingList, sense: Sense, writes: &[Write]) -> Impact
         ensures more { IsImpactWithin self result }
         ensures has { list_all (has_change result (rules_in mappings.now) sense)
@@ -59,7 +60,7 @@ impl Impact {
         all
     }
 
-    // That of a write more.
+    // The impact with one further write.
     fn with_one(self, mappings: &MappingList, sense: Sense, write: &Write) -> Impact
         ensures more { IsImpactWithin self result }
         ensures has { has_change result (rules_in mappings.now) sense (change_of write.now) ≡ true }
@@ -69,7 +70,7 @@ impl Impact {
         asked.by_each(mappings.as_slice(), adds(sense, write), tuple)
     }
 
-    // With what asks for the tuple.
+    // The impact with the reads that ask for the tuple.
     fn asked_for(self, tuple: &Tuple) -> Impact
         ensures more { IsImpactWithin self result }
         ensures has { has_tuple_asked result (fact_of tuple.now) ≡ true }
@@ -82,7 +83,8 @@ impl Impact {
         }
     }
 
-    // With what joins with the tuple, which is there since or was there before.
+    // The impact with the own writes that join with the tuple by one of the mappings. `adds`: the tuple is there now and was
+    // not before.
     fn by_each(self, mappings: &[Mapping], adds: bool, tuple: &Tuple) -> Impact
         ensures more { IsImpactWithin self result }
         ensures has { list_all (has_rule result adds (fact_of tuple.now))
@@ -95,7 +97,7 @@ impl Impact {
         all
     }
 
-    // With what joins with it by the mapping.
+    // The impact with the own writes that join with the tuple by the mapping.
     fn by(self, mapping: &Mapping, adds: bool, tuple: &Tuple) -> Impact
         ensures more { IsImpactWithin self result }
         ensures has { has_rule result adds (fact_of tuple.now) (rule_of mapping.now) ≡ true }
@@ -113,7 +115,7 @@ impl Impact {
 }
 
 impl Reach {
-    // That of no write.
+    // The reach of no write.
     fn none() -> Reach {
         Reach {
             every: false,
@@ -121,7 +123,7 @@ impl Reach {
         }
     }
 
-    // With what stands at one of the seats where the tuple stands at one of the atoms.
+    // The reach with the own writes that stand at one of the seats if the tuple stands at one of the atoms.
     fn with(self, seats: &[Atom], atoms: &[Atom], tuple: &Tuple) -> Reach
         ensures more { IsReachWithin self result }
         ensures has { has_joins result (map pattern_of seats.now) (map pattern_of atoms.now)
@@ -134,7 +136,7 @@ impl Reach {
         all
     }
 
-    // With any own write, where the tuple was there before and stood at one of the atoms.
+    // The reach with any own write, if the tuple was there before and stood at one of the atoms.
     fn with_right(self, atoms: &[Atom], adds: bool, tuple: &Tuple) -> Reach
         ensures more { IsReachWithin self result }
         ensures has { has_right result (map pattern_of atoms.now) adds (fact_of tuple.now) ≡ true }
@@ -145,7 +147,7 @@ impl Reach {
         self.widened(stands_in(atoms, tuple.relation))
     }
 
-    // With what stands at one of the seats where the tuple stands at the atom.
+    // The reach with the own writes that stand at one of the seats if the tuple stands at the atom.
     fn with_atom(self, seats: &[Atom], atom: &Atom, tuple: &Tuple) -> Reach
         ensures more { IsReachWithin self result }
         ensures has { has_seats result (map pattern_of seats.now) (fact_of tuple.now)
@@ -157,7 +159,7 @@ impl Reach {
         self.with_seats(seats, atom, tuple)
     }
 
-    // The same of an atom of the tuple's relation.
+    // The reach with the own writes that stand at one of the seats if the tuple stands at the atom, which is of its relation.
     fn with_seats(self, seats: &[Atom], atom: &Atom, tuple: &Tuple) -> Reach
         ensures more { IsReachWithin self result }
         ensures has { list_all (has_seat result (fact_of tuple.now) (pattern_of atom.now))
@@ -170,7 +172,7 @@ impl Reach {
         all
     }
 
-    // With the own writes of the relation that have the key, or with any where there is none.
+    // The reach with the own writes of the relation that have the key, or with all own writes if there is no key.
     fn with_key(self, relation: u16, key: Option<Key<'_>>) -> Reach
         ensures more { IsReachWithin self result }
         ensures has { has_key result relation (option_map key_of key.entry) ≡ true }
@@ -184,7 +186,7 @@ impl Reach {
         }
     }
 
-    // With any own write, if so.
+    // The reach with any own write if `every` is set.
     fn widened(self, every: bool) -> Reach
         ensures more { IsReachWithin self result }
         ensures every { every ≡ true → result.every ≡ true }
@@ -196,7 +198,7 @@ impl Reach {
     }
 }
 
-// The first of the terms that is a variable of the atom, with what stands for it where that is the tuple.
+// The first of the terms that is a variable of the atom, with the value that it has if the tuple stands at the atom.
 fn first_key<'t>(terms: &[Term], atom: &Atom, tuple: &'t Tuple) -> Option<Key<'t>>
     ensures key { option_map key_of result ≡ key_from 0 (map slot_of terms.now)
         (columns (pattern_of atom.now) (fact_of tuple.now)) }
@@ -211,7 +213,7 @@ fn first_key<'t>(terms: &[Term], atom: &Atom, tuple: &'t Tuple) -> Option<Key<'t
     None
 }
 
-// What stands for the term where the atom is the tuple, if it is a variable of the atom.
+// The value that the term has if the tuple stands at the atom, if the term is a variable of the atom.
 fn standing_for<'t>(term: &Term, atom: &Atom, tuple: &'t Tuple) -> Option<&'t Value>
     ensures value { option_map datum_of (option_copied result) ≡ standing_in (slot_of term.now)
         (columns (pattern_of atom.now) (fact_of tuple.now)) }
@@ -222,7 +224,7 @@ fn standing_for<'t>(term: &Term, atom: &Atom, tuple: &'t Tuple) -> Option<&'t Va
     }
 }
 
-// What stands for the variable, where these terms are the values.
+// The value of the variable if these terms stand for these values.
 fn value_of<'t>(variable: u16, terms: &[Term], values: &'t [Value]) -> Option<&'t Value>
     ensures value { option_map datum_of (option_copied result) ≡ value_in variable
         (zip (map slot_of terms.now) (map datum_of values.now)) }

@@ -29,7 +29,7 @@ pub(crate) fn may_decide(
     may_decide_of(mapping, direction, own, tuple)
 }
 
-// The same of a mapping that there is.
+// Whether the tuple may decide the first violation of this mapping that the own writes caused.
 fn may_decide_of(mapping: &Mapping, direction: Direction, own: &[Write], tuple: &Tuple) -> bool
     ensures { result ≡ concerns_rule (heading_of direction) (map change_of own.now)
         (Some (rule_of mapping.now)) (fact_of tuple.now) }
@@ -61,8 +61,8 @@ fn joins_either(mapping: &Mapping, direction: Direction, own: &[Write], tuple: &
     at_side(mapping, false, direction, own, tuple)
 }
 
-/// Whether the write may make a violation of the mapping that the own writes caused in this direction, where there was none: it
-/// breaks the mapping, or its tuple is of a relation of the mapping and they put mappings in force.
+/// Whether the write may make a violation of the mapping that the own writes caused, although there was none before: it breaks
+/// the mapping, or its tuple is of a relation of the mapping and they put mappings in force.
 pub(crate) fn may_make(
     mapping: Option<&Mapping>,
     direction: Direction,
@@ -79,7 +79,7 @@ pub(crate) fn may_make(
     may_make_of(mapping, direction, own, sense, write)
 }
 
-// The same of a mapping that there is.
+// Whether the write may make a violation of this mapping that the own writes caused, although there was none before.
 fn may_make_of(
     mapping: &Mapping,
     direction: Direction,
@@ -113,8 +113,8 @@ pub(crate) fn breaks_some(
         .any(|mapping| breaks(mapping, direction, sense, own, write))
 }
 
-// Whether the write may break the mapping, with one of the own writes: a violation that they cause may have on the left a
-// tuple that is there since, or was met on the right with one that is gone.
+// Whether the write may break the mapping, with one of the own writes. A violation that they cause may have on the left a tuple
+// that is there now and was not before. Or a tuple that is gone now may have met it on the right.
 fn breaks(
     mapping: &Mapping,
     direction: Direction,
@@ -128,7 +128,7 @@ fn breaks(
     at_side(mapping, adds(sense, write), direction, own, tuple_of(write))
 }
 
-// Whether the tuple of the write is there since and was not before.
+// Whether the tuple of the write is there now and was not before.
 pub(crate) fn adds(sense: Sense, write: &Write) -> bool
     ensures { result ≡ adds_def sense (change_of write.now) }
 {
@@ -185,8 +185,8 @@ fn meets_right(mapping: &Mapping, direction: Direction, own: &[Write], tuple: &T
     }
 }
 
-// Whether one of the writes may cause a violation in which the tuple stands at one of the atoms. Where none of these is of its
-// relation none may.
+// Whether one of the writes may cause a violation in which the tuple stands at one of the atoms. If none of these atoms is of
+// the tuple's relation, none may.
 fn joins_own(
     mapping: &Mapping,
     direction: Direction,
@@ -286,7 +286,7 @@ fn is_forward(direction: Direction) -> bool
     }
 }
 
-// The atoms among which a violation that own writes caused has the tuple of one of them.
+// The atoms at one of which stands the own write that caused a violation.
 fn seats(mapping: &Mapping, direction: Direction) -> &[Atom]
     ensures { map pattern_of result.now ≡ seats_def (heading_of direction) (rule_of mapping.now) }
 {
@@ -362,7 +362,7 @@ fn all_agree(atom: &Atom, own: &Tuple, other: &Atom, tuple: &Tuple) -> bool
         .all(|(term, value)| agrees(term, value, other, tuple))
 }
 
-// Whether the term, where it stands for the value, agrees with the atom, where that is the tuple.
+// Whether the term with its value agrees with the other atom, if the tuple stands at that atom.
 fn agrees(term: &Term, value: &Value, other: &Atom, tuple: &Tuple) -> bool
     ensures { result ≡ list_all (agree (slot_of term.now, datum_of value.now))
         (columns (pattern_of other.now) (fact_of tuple.now)) }

@@ -2,8 +2,8 @@
 ghost use Rattle.core_conflict.specs.Concerns.{UnmetValuesStay};
 ghost use Rattle.core_conflict.specs.Rows.{ConcernRows};
 
-/// A read that no write meets keeps its value: over repositories that have the same tuples but for those of the writes its
-/// reply is the value of its query over the second where it is over the first.
+/// A read that no write meets keeps its value. Let two repositories have the same tuples except those of the writes. If the
+/// read's reply is the value of its query over the first, it is also the value over the second.
 pub fn unmet_values_stay()
     ensures { UnmetValuesStay }
 {}

@@ -1,7 +1,7 @@
 //! Whether the reads that an attempt has logged still have their values over what lies below it now.
 //!
-//! Between two moments writes came or went below the attempt. A read that none of them meets has the value that it had, by the
-//! law `unmet_values_stay`; only the others are evaluated anew.
+//! Between two moments writes came or went below the attempt. By the law `unmet_values_stay`, a read that no such write meets
+//! keeps its value. Only the other reads are evaluated again.
 #![tactic(auto)]
 
 mod changes;

@@ -5,7 +5,7 @@ ghost use Rattle.core_conflict.specs.Signatures.{AreApart, IsWithin, digest as d
 
 use base_types::Value;
 
-/// A set of spots, of which there are 16,384: it has those whose low bit and high bit are both set.
+/// A set of spots out of 16,384. A spot is in it if its low bit and its high bit are both set.
 #[derive(Clone, Copy, Debug)]
 pub struct Signature {
     low: u128,
@@ -32,7 +32,7 @@ impl Signature {
         }
     }
 
-    /// Whether the sets may have a spot in common. Where it says no, they have none.
+    /// Whether the sets may have a spot in common; if `false`, they have none.
     #[inline(always)]
     pub(crate) fn shares(self, other: Signature) -> bool
         ensures apart { result ≡ false → AreApart self other }
@@ -65,7 +65,7 @@ pub(crate) fn home(relation: u16) -> u32
     low % 128 * 128 + high % 128
 }
 
-// A number by which the value is told from most others.
+// A number that differs between most values.
 fn digest(value: &Value) -> u64
     ensures digest { result ≡ digest_def (datum_of value.now) }
 {
@@ -76,7 +76,7 @@ fn digest(value: &Value) -> u64
     }
 }
 
-// The same of a word's bytes.
+// A number that differs between the bytes of most words.
 fn digest_word(bytes: &[u8]) -> u64
     ensures digest { result ≡ digest_from 0 bytes.now }
 {

@@ -1,4 +1,4 @@
-//! The view that an attempt had when it asked, over what lies below it now.
+//! The view that an attempt had when it asked, but over what lies below it now.
 ghost use Rattle.std.specs.Prelude.{◌≡◌, ◌≤◌, length, map, take, OnOk};
 ghost use Rattle.base_types.specs.Meanings.{change_of};
 
@@ -6,7 +6,7 @@ use base_types::{Facts, Memory, Write};
 use chase_eval::View;
 use std::alloc::Global;
 
-/// The view of an attempt as it was at an earlier moment: when the attempt had made the first `seen` of its writes.
+/// The view of an attempt as it was when the attempt had made the first `seen` of its writes.
 #[derive(Drop)]
 pub(crate) struct EarlierView<'a, F: Facts> {
     pub(crate) view: View<'a, F>,
@@ -14,7 +14,7 @@ pub(crate) struct EarlierView<'a, F: Facts> {
 }
 
 #[tactic(auto, using(crate::proofs::Seeing::seen_anew, crate::proofs::Seeing::seen_on))]
-/// Takes the view from the first `seen` own writes to the first `count`.
+/// Changes the view from the first `seen` own writes to the first `count`.
 pub(crate) fn see<'a, F: Facts>(
     alloc: Global,
     view: &mut View<'a, F>,
@@ -38,7 +38,7 @@ pub(crate) fn see<'a, F: Facts>(
     view.write_all(alloc, &own[seen..count])
 }
 
-/// Where the first `own` of the writes end, or all where there are fewer.
+/// The number of the first `own` of the writes: `own`, or the length if there are fewer.
 #[tactic(auto, using(crate::proofs::Seeing::seen_most))]
 pub(crate) fn standing_then(own: u64, writes: &[Write]) -> usize
     ensures few { result ≤ length writes.now }

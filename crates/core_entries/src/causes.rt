@@ -6,7 +6,7 @@ use chase_query::Reply;
 /// Why an update was restarted. Reads are counted from 1 in the log of the reader.
 #[derive(Debug, Drop)]
 pub enum Cause {
-    /// The reader's read had the old answer, and has the new one with the writer's new writes.
+    /// The reader's read had the old answer; with the writer's new writes it has the new one.
     Conflict {
         reader: u32,
         read: u64,

@@ -4,14 +4,15 @@ use crate::causes::CauseList;
 use crate::standings::Standing;
 use base_types::{Choice, List, WriteList};
 
-/// An entry of a history: what one event did. A standing is the one after the event, and `committed` the number of committed updates after it.
+/// What one event did. `standing` is the update's standing after the event, and `committed` the number of updates that are
+/// committed after it.
 #[derive(Debug, Drop)]
 pub enum Entry {
     /// The update was admitted.
     Admitted {
         update: u32,
     },
-    /// The update made a step by this attempt, which shows these writes.
+    /// The update made a step of this attempt, and others see these writes.
     Stepped {
         update: u32,
         attempt: u32,

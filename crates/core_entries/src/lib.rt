@@ -1,6 +1,6 @@
 //! The entries of a history as the program has them: what each event did, and why it restarted others.
 //!
-//! What a `Standing`, a `Cause` and an `Entry` mean is said in `specs/Meanings.antt`, in the terms of the histories of `def_history`.
+//! `specs/Meanings.antt` says what a `Standing`, a `Cause` and an `Entry` mean, in the terms of the histories of `def_history`.
 #![tactic(auto)]
 
 mod causes;

@@ -1,13 +1,13 @@
 //! What an update may do next.
 
-/// The standing of an update: the first of these that holds, from the last to the first.
+/// The standing of an update. If several of these hold, it is the last of them.
 #[derive(Clone, Copy, Debug)]
 pub enum Standing {
     /// It may make a step.
     Ready,
-    /// It was restarted so often that it waits for all lower ones; this is the lowest that is not committed.
+    /// It used up its retries, so it waits for all lower updates; the number is the lowest update that is not committed.
     Held(u32),
-    /// It is at a question, and no next answer was delivered.
+    /// It is at a question, and no next answer has been delivered.
     Pending,
     /// It is at a question, and the next delivered answer does not fit.
     Misfit,
@@ -15,7 +15,7 @@ pub enum Standing {
     Done,
     /// Its attempt ended out of its budget of steps.
     Spent,
-    /// Its attempt ended for a null that is nowhere.
+    /// Its attempt ended because the update names a null that is nowhere.
     Refused,
     /// It was withdrawn.
     Withdrawn,

@@ -1,4 +1,4 @@
--- A session that was read, as one that the theorem on histories is about, and what that theorem then says of it.
+-- A session that was read, as one that the theorem on histories is about, and what the theorem says of it.
 use Rattle.std.specs.Prelude.{◌≡◌, ℕ, ◌≤◌, true, List, [], map, length, None}
 use Rattle.std.specs.List.{list_all}
 use Rattle.def_machine.specs.Updates.{Update, Session, Settings}
@@ -31,7 +31,8 @@ history_session budget s = session_of (rules s) budget s.base (requests_in s) []
 abbrev pub IsHistoryOf : (budget : ℕ) (c : Settings) (s : SessionData) → List (Entry (caused_chase (rules s) budget)) → List (Update (caused_chase (rules s) budget)) → Type 0
 IsHistoryOf budget c s H us = IsLegalHistory (rules s) budget c (history_session budget s) H us
 
--- The history has come to its end: every update of the session is admitted, none was withdrawn and none answered live, and it is quiet.
+-- The history has come to its end: every update of the session is admitted, none was withdrawn, none answered live, and it is
+-- quiet.
 pub record IsWhole (budget : ℕ) (c : Settings) (s : SessionData) (H : List (Entry (caused_chase (rules s) budget))) (us : List (Update (caused_chase (rules s) budget))) : Type 0 where
   pub recorded : list_all is_recorded (map event_of H) ≡ true
   pub admitted : length us ≡ length s.updates
@@ -41,14 +42,15 @@ pub record IsWhole (budget : ℕ) (c : Settings) (s : SessionData) (H : List (En
 abbrev pub CheckedIsAdmissible : Type 0
 CheckedIsAdmissible = (budget : ℕ) (s : SessionData) → IsSession s → base_violation s ≡ None → 1 ≤ budget → IsAdmissible (rules s) budget (history_session budget s)
 
--- So whatever the order in which its updates were taken: a history that has come to its end tells what the serial machine tells of the session.
+-- In whatever order the updates were taken, a history that has come to its end has the result of the serial machine on the
+-- session.
 abbrev pub WholeIsSerial : Type 0
 WholeIsSerial =
     (budget : ℕ) (c : Settings) (s : SessionData) (H : List (Entry (caused_chase (rules s) budget))) (us : List (Update (caused_chase (rules s) budget))) → IsSession s → base_violation s ≡ None → 1 ≤ budget
     → IsHistoryOf budget c s H us → IsWhole budget c s H us
     → serial_result (rules s) budget s.base (requests_in s) ≡ tells (rules s) budget (history_session budget s) us (first_stop (caused_chase (rules s) budget) 1 us)
 
--- And every mapping in force holds in what its committed updates leave, at any moment.
+-- At any moment, every mapping in force holds in what the committed updates leave.
 abbrev pub MappingsHold : Type 0
 MappingsHold =
     (budget : ℕ) (c : Settings) (s : SessionData) (H : List (Entry (caused_chase (rules s) budget))) (us : List (Update (caused_chase (rules s) budget))) → IsSession s → base_violation s ≡ None → 1 ≤ budget

@@ -1,4 +1,5 @@
--- What turns do: they lower the work that is left, and a drain of a session to which all updates were admitted leaves what the serial machine leaves.
+-- What turns do: they lower the work that is left. If all updates of a session are admitted, a drain leaves what the serial
+-- machine leaves.
 use Rattle.std.specs.Prelude.{◌≡◌, ℕ, suc, ◌≤◌, true, List, [], map, length, None, Some}
 use Rattle.std.specs.List.{list_all}
 use Rattle.def_machine.specs.Histories.{event_of}
@@ -17,26 +18,26 @@ use Rattle.lang_session.specs.Base.{base_violation}
 use Rattle.lang_session.specs.Meanings.{requests_in}
 use Rattle.core_laws.specs.Turns.{turned, after_turns, work_after, is_quiet_after}
 
--- Its events are admissions, steps and deliveries alone.
+-- Its events are only admissions, steps and deliveries.
 abbrev pub AreRecorded : Ground → List PlainEntry → Type 0
 AreRecorded g H = list_all is_recorded (map event_of (entries_over g H)) ≡ true
 
--- What is kept from a history to a later one.
+-- What turns keep from a history to a later one.
 pub record Keeps (g : Ground) (H H' : List PlainEntry) : Type 0 where
   pub legal : IsLegalOver g H'
   pub recorded : AreRecorded g H → AreRecorded g H'
   pub count : length (updates_after g H') ≡ length (updates_after g H)
 
--- A turn keeps these, and leaves less work.
+-- A turn keeps this, and leaves less work.
 pub record IsTurn (g : Ground) (H H' : List PlainEntry) : Type 0 where
   pub keeps : Keeps g H H'
   pub less : suc (work_after g H') ≤ work_after g H
 
--- After every legal history.
+-- Each turn after a legal history is such a turn.
 abbrev pub TurnLaw : Type 0
 TurnLaw = (g : Ground) (H H' : List PlainEntry) → 1 ≤ g.budget → IsRepository g.base → IsLegalOver g H → turned g H ≡ Some H' → IsTurn g H H'
 
--- Any number of turns keeps them.
+-- Any number of turns keeps this.
 abbrev pub TurnsLaw : Type 0
 TurnsLaw = (g : Ground) (n : ℕ) (H H' : List PlainEntry) → 1 ≤ g.budget → IsRepository g.base → IsLegalOver g H → after_turns g n H ≡ Some H' → Keeps g H H'
 
@@ -50,7 +51,7 @@ pub record IsAdmitted (s : SessionData) (budget : ℕ) (c : Settings) (H : List 
   pub recorded : AreRecorded (over s budget c) H
   pub all : length (updates_after (over s budget c) H) ≡ length s.updates
 
--- A drain from there leaves what the serial machine leaves.
+-- A drain of such a history leaves what the serial machine leaves.
 abbrev pub DrainedLaw : Type 0
 DrainedLaw =
     (s : SessionData) (budget : ℕ) (c : Settings) (n : ℕ) (H H' : List PlainEntry) → IsSession s → base_violation s ≡ None → IsRepository s.base → 1 ≤ budget → IsAdmitted s budget c H

@@ -19,11 +19,11 @@ abbrev pub AreAdmitted : List RelationSchema → List Operation → Type 0
 AreAdmitted relations [] = Unit {0}
 AreAdmitted relations (op ∷ ops) = ((before : ℕ) × (admits relations before op ≡ true)) × AreAdmitted relations ops
 
--- What the history of a session is over when these updates were admitted later.
+-- What the history of a session is over if these updates were admitted later.
 abbrev pub over_with : SessionData → ℕ → Settings → List Operation → Ground
 over_with s budget c ops = record { rules = rules_of s.mappings; budget = budget; settings = c; base = s.base; requests = requests_in s; later = ops }
 
--- A history is over this session and over updates admitted later. The session passed its checks, its base violates no
+-- The history is over this session and over updates admitted later. The session passed its checks, its base violates no
 -- mapping, an update may make a step, and the session's own relations admitted each later update.
 pub record IsOfSession (s : SessionData) (g : Ground) : Type 0 where
   pub valid : IsSession s
@@ -32,8 +32,8 @@ pub record IsOfSession (s : SessionData) (g : Ground) : Type 0 where
   pub over : g ≡ over_with s g.budget g.settings g.later
   pub admitted : AreAdmitted s.relations g.later
 
--- What the theorem on histories says of these entries: the committed updates have the finishes, and leave the repository,
--- that the serial machine gives which takes them alone, each whole, in number order, with the answers delivered to it.
+-- What the theorem on histories says of these entries. Let the serial machine take the committed updates alone, each whole, in
+-- number order, with the answers delivered to it: the finishes and the repository are the same.
 abbrev pub IsSerialOver : Ground → List PlainEntry → Type 0
 IsSerialOver g H = IsSerial g.rules g.budget g.settings (session_over g) (entries_over g H) (updates_after g H)
 
@@ -41,10 +41,10 @@ IsSerialOver g H = IsSerial g.rules g.budget g.settings (session_over g) (entrie
 abbrev pub LiveIsAdmissible : Type 0
 LiveIsAdmissible = (s : SessionData) (g : Ground) → IsOfSession s g → IsAdmissible g.rules g.budget (session_over g)
 
--- One more update that the session's relations admit leaves it such a session.
+-- With one more update that its relations admit, the session stays such a session.
 abbrev pub LiveGrows : Type 0
 LiveGrows = (s : SessionData) (g : Ground) (before : ℕ) (op : Operation) → IsOfSession s g → admits s.relations before op ≡ true → IsOfSession s (handed g op)
 
--- So every legal history over it is serial.
+-- Every legal history over such a session is serial.
 abbrev pub LiveIsSerial : Type 0
 LiveIsSerial = (s : SessionData) (g : Ground) (H : List PlainEntry) → IsOfSession s g → IsLegalOver g H → IsSerialOver g H

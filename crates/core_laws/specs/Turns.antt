@@ -1,4 +1,5 @@
--- A drain of a history: turns, each a step of the lowest ready update, else a delivery to the lowest that can have one, until it is quiet.
+-- A drain of a history: turns until it is quiet. Each is a step of the lowest ready update, else a delivery to the lowest
+-- update that can have one.
 use Rattle.std.specs.Prelude.{ℕ, zero, suc, Bool, List, Option, Some, option_and_then}
 use Rattle.def_machine.specs.Drains.{next_turn}
 use Rattle.def_machine.specs.Standings.{is_quiet}
@@ -10,7 +11,7 @@ use Rattle.def_history.specs.Cores.{Ground, machine, updates_after, grown}
 abbrev pub turned : Ground → List PlainEntry → Option (List PlainEntry)
 turned g H = option_and_then (grown g H) (next_turn (machine g) g.settings (updates_after g H))
 
--- The history after so many turns, where there are so many.
+-- The history after n turns, if that many can be made.
 abbrev pub after_turns : Ground → ℕ → List PlainEntry → Option (List PlainEntry)
 after_turns g zero H = Some H
 after_turns g (suc n) H = option_and_then (after_turns g n) (turned g H)
@@ -19,6 +20,6 @@ after_turns g (suc n) H = option_and_then (after_turns g n) (turned g H)
 abbrev pub work_after : Ground → List PlainEntry → ℕ
 work_after g H = work (machine g) g.settings (updates_after g H)
 
--- Nothing is ready after it, and nothing can be delivered.
+-- After the history nothing is ready, and nothing can be delivered.
 abbrev pub is_quiet_after : Ground → List PlainEntry → Bool
 is_quiet_after g H = is_quiet (machine g) g.settings (updates_after g H)

@@ -1,5 +1,5 @@
-//! The theorem on histories, for sessions that were read: what passed the checks of the language, over a base that violates
-//! no mapping, is a session that the theorem is about.
+//! The theorem on histories, for sessions that were read: a session that passed the checks of the language, and whose base
+//! violates no mapping, is one that the theorem is about.
 //!
 //! Each law is the contract of a function that does nothing, so that it is proved and can be cited.
 ghost use Rattle.core_laws.specs.Histories.{CheckedIsAdmissible, MappingsHold, WholeIsSerial};
@@ -9,8 +9,8 @@ pub fn checked_sessions_are_admissible()
     ensures { CheckedIsAdmissible }
 {}
 
-/// Whatever the order in which the updates of such a session were taken: a legal history in which all of them are admitted,
-/// with no withdrawal and no live answer, and which is quiet, tells what the serial machine tells of the session.
+/// Let all updates of such a session be admitted in a legal history, in any order, with no withdrawal and no live answer. When
+/// the history is quiet, its result is the one of the serial machine on the session.
 pub fn whole_histories_are_serial()
     ensures { WholeIsSerial }
 {}

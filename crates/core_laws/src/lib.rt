@@ -1,7 +1,7 @@
-//! Drains of kept histories: while an update is ready or an answer can be delivered, a step of the lowest ready update, else a
-//! delivery to the lowest that can have it.
+//! Drains of kept histories. While an update is ready or an answer can be delivered, a turn is a step of the lowest ready
+//! update, else a delivery to the lowest update that can have one.
 //!
-//! The definitions stand in `specs/`; each function is a law, whose contract is the statement and whose body is empty.
+//! The definitions stand in `specs/`. Each function is a law, whose contract is the statement and whose body is empty.
 #![tactic(auto)]
 
 mod admissible;

@@ -39,7 +39,7 @@ HasRoom r = 1 ≤ r.answers.spare
 abbrev pub HasStepped : Plan → QueuedUpdate → QueuedUpdate → Type 0
 HasStepped plan r r' = (ms : List Rule) (B : ℕ) (D : List Fact) → IsPlanOf ms B D r plan → update_of ms B r' ≡ stepped (caused_chase ms B) D (update_of ms B r)
 
--- The queued update is still that update where the plan is that of its step.
+-- If the plan is that of its step, the queued update is still the update of that number, between two steps.
 abbrev pub KeepsPlaceBy : Plan → QueuedUpdate → QueuedUpdate → Type 0
 KeepsPlaceBy plan r r' = (ms : List Rule) (B : ℕ) (D : List Fact) (n : ℕ) → IsPlanOf ms B D r plan → StandsAt n r → StandsAt n r'
 

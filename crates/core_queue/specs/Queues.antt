@@ -30,13 +30,13 @@ module _ (ms : List Rule) (B : ℕ) where
   abbrev pub updates_of : List QueuedUpdate → List (Update (caused_chase ms B))
   updates_of rs = map update_of rs
 
--- The queued update is that of update n, and between two steps; its footprint is that of its own writes and its reads.
+-- The queued update stands for update n, between two steps; its footprint covers its own writes and its reads.
 pub record StandsAt (n : ℕ) (r : QueuedUpdate) : Type 0 where
   pub number : r.program.attempt.number ≡ n
   pub between : r.program.reading ≡ None
   pub covers : Covers r.footprint r.program.attempt.own (reads_in r.log.items)
 
--- The queued updates are those of the updates from number n on.
+-- The queued updates stand for the updates from number n on.
 abbrev pub AreFrom : ℕ → List QueuedUpdate → Type 0
 AreFrom n [] = Unit {0}
 AreFrom n (r ∷ rs) = StandsAt n r × AreFrom (suc n) rs

@@ -11,11 +11,11 @@ use Rattle.def_steps.specs.Chase.{caused_chase}
 use Rattle.core_queue.specs.Queues.{update_of, updates_of}
 use Rattle.core_queue.specs.declared.updates.QueuedUpdate.{QueuedUpdate}
 
--- One more attempt has a number.
+-- There is a number for one more attempt.
 abbrev pub HasOneMore : QueuedUpdate → Type 0
 HasOneMore r = r.program.attempt.attempt + 1 < 2 ^ 32
 
--- That holds of each of them.
+-- There is a number for one more attempt at each of them.
 abbrev pub AllHaveOneMore : List QueuedUpdate → Type 0
 AllHaveOneMore [] = Unit {0}
 AllHaveOneMore (r ∷ rs) = HasOneMore r × AllHaveOneMore rs
@@ -29,13 +29,13 @@ abbrev pub IsFreshIf : QueuedUpdate → Option State → Type 0
 IsFreshIf r None = Unit {0}
 IsFreshIf r (Some s) = IsFresh r s
 
--- For each of the first queued updates its next attempt, or none; for those behind them there is none.
+-- For each of the first queued updates its next attempt, or none; for later ones there is none.
 abbrev pub AreFresh : List QueuedUpdate → List (Option State) → Type 0
 AreFresh rs [] = Unit {0}
 AreFresh [] (f ∷ fs) = ⊥
 AreFresh (r ∷ rs) (f ∷ fs) = IsFreshIf r f × AreFresh rs fs
 
--- There is one exactly where there is a cause.
+-- There is an attempt exactly if there is a cause.
 abbrev pub AreThere : List (Option Cause) → List (Option State) → Type 0
 AreThere cs fs = map is_some fs ≡ map is_some cs
 
@@ -43,13 +43,13 @@ AreThere cs fs = map is_some fs ≡ map is_some cs
 abbrev pub HasRestarted : QueuedUpdate → QueuedUpdate → Type 0
 HasRestarted r r' = (ms : List Rule) (B : ℕ) → update_of ms B r' ≡ anew (caused_chase ms B) r.program.attempt.number (update_of ms B r)
 
--- From place k on the updates begin their next attempts for which there is one.
+-- From place k on, the updates for which there is a next attempt begin it.
 abbrev pub HaveRestarted : ℕ → List (Option State) → List QueuedUpdate → List QueuedUpdate → Type 0
 HaveRestarted k fs rs rs' =
     (ms : List Rule) (B : ℕ) (xs : List (Option (machine.Cause (caused_chase ms B)))) → map is_some xs ≡ map is_some fs
     → updates_of ms B rs' ≡ take k (updates_of ms B rs) ++ restart (caused_chase ms B) (suc k) xs (drop k (updates_of ms B rs))
 
--- The update begins its next attempt, if there is one, and else stays as it is.
+-- The update begins its next attempt if there is one, and else stays as it is.
 abbrev pub HasRestartedIf : Option State → QueuedUpdate → QueuedUpdate → Type 0
 HasRestartedIf f r r' =
     (ms : List Rule) (B : ℕ) → update_of ms B r' ≡ (if is_some f then anew (caused_chase ms B) r.program.attempt.number (update_of ms B r) else update_of ms B r)

@@ -1,4 +1,5 @@
--- What is told of one queued update, for the machine of any mappings and any budget: c updates are committed, and the queued update has number n.
+-- What the contracts say of one queued update, for the machine of any mappings and any budget: c updates are committed, and the
+-- queued update has number n.
 use Rattle.std.specs.Prelude.{◌≡◌, ℕ, Bool, false, List, map, Option}
 use Rattle.std.specs.Option.{option_map}
 use Rattle.base_types.specs.declared.updates.Write.{Write}
@@ -35,7 +36,7 @@ HasStanding s c n r st = (ms : List Rule) (B : ℕ) → standing_of st ≡ stand
 abbrev pub IsReady : Settings → ℕ → ℕ → QueuedUpdate → Bool → Type 0
 IsReady s c n r b = (ms : List Rule) (B : ℕ) → b ≡ is_ready (standing (caused_chase ms B) s c n (update_of ms B r))
 
--- The update is not ready, whatever the settings, its number, and how many are committed.
+-- The update is not ready, whatever the settings, its number and the number of committed updates.
 abbrev pub CannotStep : (M : Machine) → Update M → Type 0
 CannotStep M u = (s : Settings) (c n : ℕ) → is_ready (standing M s c n u) ≡ false
 

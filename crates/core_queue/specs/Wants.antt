@@ -13,7 +13,7 @@ use Rattle.def_steps.specs.Chase.{caused_chase, ending}
 use Rattle.core_queue.specs.Queues.{update_of}
 use Rattle.core_queue.specs.declared.updates.QueuedUpdate.{QueuedUpdate}
 
--- What lacks for what is asked, with the next answer if there is one.
+-- What is lacking at this question, with the next answer if there is one.
 abbrev pub unless_fits : Inquiry → Option Choice → Option Lack
 unless_fits i None = Some Missing
 unless_fits i (Some c) = if fits_inquiry i c then None else Some Misfit
@@ -26,7 +26,7 @@ HasLack r l = (ms : List Rule) (B : ℕ) → l ≡ lack (caused_chase ms B) (map
 abbrev pub IsHeld : Settings → ℕ → ℕ → QueuedUpdate → Bool → Type 0
 IsHeld s c n r b = (ms : List Rule) (B : ℕ) → b ≡ is_held (caused_chase ms B) s c n (update_of ms B r)
 
--- Where the update is ready, its attempt wants a step with this answer, or with none.
+-- If the update is ready, its attempt wants a step with this answer, or with none.
 abbrev pub WantsNext : QueuedUpdate → Option Choice → Type 0
 WantsNext r c =
     (ms : List Rule) (B : ℕ) (s : Settings) (k n : ℕ) → is_ready (standing (caused_chase ms B) s k n (update_of ms B r)) ≡ true → WantsStep (wish r.program) c

@@ -1,4 +1,4 @@
-//! What an event does to one queued update. Whatever may be refused for want of memory comes before it.
+//! What an event does to one queued update. All that may fail for want of memory is done before the event.
 ghost use Rattle.std.specs.Prelude.{◌≡◌, ◌+◌, ◌≤◌, [], ◌∷◌, ◌++◌, length, map, take, IfOk, OnOk};
 ghost use Rattle.base_types.specs.Meanings.{choice_of};
 ghost use Rattle.core_queue.specs.Queues.{StandsAt};
@@ -14,7 +14,7 @@ use std::alloc::Global;
 use std::collections::VecDeque;
 use std::mem;
 
-// Room for so many reads is made with the first of an attempt, since most attempts have no more.
+// Room for this number of reads is made with the first read of an attempt, since most attempts have no more.
 const MOST_READS: usize = 32;
 
 impl QueuedUpdate {
@@ -86,7 +86,7 @@ impl QueuedUpdate {
         }
     }
 
-    /// Puts the choice where the attempt waits for an answer; answers that were delivered for later questions are dropped.
+    /// Makes the choice the answer that the attempt waits for; answers that were delivered for later questions are dropped.
     pub fn answer(&mut self, alloc: Global, choice: Choice)
         requires room { HasRoom self.old }
         ensures answered { HasAnswered choice self.old self.new }
@@ -111,7 +111,7 @@ impl QueuedUpdate {
     }
 }
 
-// Puts the attempt in the place of another one, which is let go.
+// Puts the attempt in the place of another one, which is dropped.
 pub(crate) fn renew(place: &mut Attempt, fresh: Attempt)
     ensures fresh { place.new ≡ fresh }
 {
@@ -154,7 +154,7 @@ fn put_last<T: Drop>(list: &mut List<T>, item: T)
     }
 }
 
-// Drops the answers behind so many.
+// Drops the answers after the first `many`.
 fn keep(alloc: Global, answers: &mut ChoiceList, many: usize)
     ensures first { answers.new.items ≡ take many answers.old.items }
 {

@@ -1,10 +1,10 @@
 //! The queue of a core: each update with its present attempt, what it may do next, and which of them comes first.
 //!
-//! What a queued update and a queue mean is said in `specs/Queues.antt`: they are the updates of a history of the
-//! chase. Each queued update of a queue has the number of its place, from 1, and stands between two steps (`AreFrom 1
-//! queue`). What is told of them is said for the machine of any mappings and any budget.
+//! `specs/Queues.antt` says what a queued update and a queue mean: the updates of a history of the chase. Each queued update of
+//! a queue has the number of its place, from 1, and stands between two steps (`AreFrom 1 queue`). The contracts hold for the
+//! machine of any mappings and any budget.
 //!
-//! What an event does to a queued update cannot fail: room is made before, and fresh attempts are made before.
+//! What an event does to a queued update cannot fail: room and fresh attempts are made before the event.
 #![tactic(auto)]
 
 mod events;

@@ -9,7 +9,7 @@ ghost use Rattle.core_queue.specs.Order.{HasCommitted, CommitsAtLeast, CommitsOn
 use crate::settings::Settings;
 use crate::updates::QueuedUpdate;
 
-/// How many updates are committed: the longest prefix of those that are over.
+/// How many updates are committed: the longest prefix of updates that are over.
 pub fn committed(queue: &[QueuedUpdate]) -> u32
     requires from { AreFrom 1 queue.now }
     ensures committed { HasCommitted queue.now result }
@@ -17,7 +17,7 @@ pub fn committed(queue: &[QueuedUpdate]) -> u32
     committed_from(queue, 0)
 }
 
-/// How many updates are committed, where at least so many are; those are not looked at.
+/// How many updates are committed, given that at least `least` are; those are not looked at.
 pub fn committed_from(queue: &[QueuedUpdate], least: u32) -> u32
     requires from { AreFrom 1 queue.now }
     requires least { CommitsAtLeast queue.now least }
@@ -26,7 +26,7 @@ pub fn committed_from(queue: &[QueuedUpdate], least: u32) -> u32
     counted(behind(queue, least), least)
 }
 
-/// The least number of a ready update, if one is ready, where at least so many are committed.
+/// The least number of a ready update, if one is ready, given that at least `least` updates are committed.
 pub fn lowest_ready(queue: &[QueuedUpdate], settings: Settings, least: u32) -> Option<u32>
     requires from { AreFrom 1 queue.now }
     requires least { CommitsAtLeast queue.now least }
@@ -36,8 +36,8 @@ pub fn lowest_ready(queue: &[QueuedUpdate], settings: Settings, least: u32) -> O
     first_ready(behind(queue, committed), settings, committed)
 }
 
-/// The least number of an update to which a recorded answer may be delivered, if there is one, where at least so many are
-/// committed.
+/// The least number of an update to which a recorded answer may be delivered, if there is one, given that at least `least`
+/// updates are committed.
 pub fn lowest_deliverable(queue: &[QueuedUpdate], settings: Settings, least: u32) -> Option<u32>
     requires from { AreFrom 1 queue.now }
     requires least { CommitsAtLeast queue.now least }
@@ -47,8 +47,8 @@ pub fn lowest_deliverable(queue: &[QueuedUpdate], settings: Settings, least: u32
     first_deliverable(behind(queue, committed), settings, committed)
 }
 
-/// The first update that is not committed, where at least so many are, if a recorded answer may be delivered to it. No lower one
-/// is deliverable then.
+/// The first update that is not committed, if a recorded answer may be delivered to it, given that at least `least` updates are
+/// committed. No lower update is deliverable then.
 pub fn next_deliverable(queue: &[QueuedUpdate], settings: Settings, least: u32) -> Option<u32>
     requires from { AreFrom 1 queue.now }
     requires least { CommitsAtLeast queue.now least }
@@ -60,8 +60,8 @@ pub fn next_deliverable(queue: &[QueuedUpdate], settings: Settings, least: u32) 
     deliverable_at_once(behind(queue, committed), settings, committed)
 }
 
-/// The least number of a ready update that is none of these, if there is one, where at least so many are committed, and the first
-/// are unready, so many; those are not looked at.
+/// The least number of a ready update that is none of `numbers`, if there is one. At least `least` updates are committed, and
+/// the first `unready` are unready; those are not looked at.
 pub fn lowest_ready_besides(
     queue: &[QueuedUpdate],
     settings: Settings,
@@ -78,7 +78,7 @@ pub fn lowest_ready_besides(
     first_besides(queue, unready, settings, committed, numbers)
 }
 
-/// Whether nothing is ready, and nothing is deliverable, where at least so many are committed.
+/// Whether nothing is ready and nothing is deliverable, given that at least `least` updates are committed.
 pub fn is_quiet(queue: &[QueuedUpdate], settings: Settings, least: u32) -> bool
     requires from { AreFrom 1 queue.now }
     requires least { CommitsAtLeast queue.now least }
@@ -92,7 +92,7 @@ pub fn is_quiet(queue: &[QueuedUpdate], settings: Settings, least: u32) -> bool
 }
 
 #[tactic(auto, using(crate::proofs::Walking::long_enough))]
-// The updates behind the first of them, so many.
+// The updates after the first `first`.
 fn behind(queue: &[QueuedUpdate], first: u32) -> &[QueuedUpdate]
     requires first { CommitsAtLeast queue.now first }
     ensures rest { result.now ≡ drop first queue.now }
@@ -100,7 +100,7 @@ fn behind(queue: &[QueuedUpdate], first: u32) -> &[QueuedUpdate]
     past(queue, first as usize)
 }
 
-// The updates past the first, so many.
+// The updates after the first `first`.
 fn past(queue: &[QueuedUpdate], first: usize) -> &[QueuedUpdate]
     requires there { first ≤ length queue.now }
     ensures rest { result.now ≡ drop first queue.now }
@@ -108,7 +108,7 @@ fn past(queue: &[QueuedUpdate], first: usize) -> &[QueuedUpdate]
     &queue[first..]
 }
 
-// How many updates are committed, where so many are, and these come behind them.
+// How many updates are committed, given that `committed` are and that `rest` are the updates after those.
 fn counted(rest: &[QueuedUpdate], committed: u32) -> u32
     requires from { AreFrom (suc committed) rest.now }
     ensures committed { CommitsOn committed rest.now result }
@@ -123,7 +123,7 @@ fn counted(rest: &[QueuedUpdate], committed: u32) -> u32
     count
 }
 
-// The least number of a ready update, where so many are committed, and these come behind them.
+// The least number of a ready update, if `committed` updates are committed and `rest` are those after them.
 fn first_ready(rest: &[QueuedUpdate], settings: Settings, committed: u32) -> Option<u32>
     requires from { AreFrom (suc committed) rest.now }
     ensures first { IsFirstReady (settings_of settings) committed (suc committed) rest.now result }
@@ -137,7 +137,7 @@ fn first_ready(rest: &[QueuedUpdate], settings: Settings, committed: u32) -> Opt
     None
 }
 
-// The least number of a deliverable update, where so many are committed, and these come behind them.
+// The least number of a deliverable update, if `committed` updates are committed and `rest` are those after them.
 fn first_deliverable(rest: &[QueuedUpdate], settings: Settings, committed: u32) -> Option<u32>
     requires from { AreFrom (suc committed) rest.now }
     ensures first { IsFirstDeliverable (settings_of settings) committed (suc committed) rest.now
@@ -152,7 +152,7 @@ fn first_deliverable(rest: &[QueuedUpdate], settings: Settings, committed: u32) 
     None
 }
 
-// The first of these updates, if it is deliverable, where so many are committed, and these come behind them.
+// The first of these updates, if it is deliverable; `committed` updates are committed, and `rest` are those after them.
 fn deliverable_at_once(rest: &[QueuedUpdate], settings: Settings, committed: u32) -> Option<u32>
     requires from { AreFrom (suc committed) rest.now }
     ensures next { IsNextOf (settings_of settings) committed rest.now result }
@@ -171,7 +171,7 @@ fn deliverable_at_once(rest: &[QueuedUpdate], settings: Settings, committed: u32
     }
 }
 
-// The least number of a ready update past the first, so many, that is none of these, where so many are committed.
+// The least number of a ready update after the first `first` that is none of `numbers`, if `committed` updates are committed.
 fn first_besides(
     queue: &[QueuedUpdate],
     first: usize,
@@ -194,7 +194,7 @@ fn first_besides(
     None
 }
 
-// Whether the update is ready, and its number none of these, where so many are committed.
+// Whether the update is ready and its number is none of `numbers`, if `committed` updates are committed.
 fn is_ready_besides(
     item: &QueuedUpdate,
     settings: Settings,

@@ -33,7 +33,7 @@ pub fn has_spent(program: &Attempt) -> bool
     is_spent(outcome(program))
 }
 
-/// The writes that the attempt shows to others: its own, and none where it ended spent or refused.
+/// The writes that the attempt shows to others: its own, or none if it ended spent or refused.
 pub fn shown(program: &Attempt) -> &[Write]
     requires between { IsBetween program.now }
     ensures shown { HasShown program.now result.now }
@@ -45,7 +45,7 @@ pub fn shown(program: &Attempt) -> &[Write]
     }
 }
 
-// How an attempt ended that wants this.
+// How an attempt that wants this ended, if it did.
 fn outcome_in(want: Want<'_>) -> Option<Outcome>
     ensures ended { option_map end_of result ≡ end_wished (want_of want.entry) }
 {
@@ -57,7 +57,7 @@ fn outcome_in(want: Want<'_>) -> Option<Outcome>
     }
 }
 
-// The question that is asked by an attempt that wants this.
+// The question of an attempt that wants this, if it is at one.
 fn question_in<'a>(want: Want<'a>) -> Option<&'a Question>
     ensures asked { option_map inquiry_of (option_copied result) ≡
         inquiry_wished (want_of want.entry) }
@@ -70,7 +70,7 @@ fn question_in<'a>(want: Want<'a>) -> Option<&'a Question>
     }
 }
 
-// Whether this is the end of an attempt out of its budget.
+// Whether an attempt that ended so was out of its budget.
 fn is_spent(outcome: Option<Outcome>) -> bool
     ensures spent { result ≡ is_spent_end (option_map end_of outcome) }
 {

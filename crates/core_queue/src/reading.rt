@@ -4,7 +4,7 @@ ghost use Rattle.core_queue.specs.Order.{ReadsAtMost};
 
 use crate::updates::QueuedUpdate;
 
-/// How many of the first updates may have read something: behind the last that has, none does. At most so many have.
+/// How many of the first updates may have read something; none after them has. None after the first `most` has read anything.
 pub fn reads_at_most(queue: &[QueuedUpdate], most: u32) -> u32
     requires most { ReadsAtMost queue.now most }
     ensures most { ReadsAtMost queue.now result }
@@ -20,7 +20,7 @@ pub fn reads_at_most(queue: &[QueuedUpdate], most: u32) -> u32
     0
 }
 
-// So many, or all of the updates where there are fewer.
+// `most`, or the number of updates if that is less.
 fn within(queue: &[QueuedUpdate], most: u32) -> u32
     requires most { ReadsAtMost queue.now most }
     ensures most { ReadsAtMost queue.now result }

@@ -1,4 +1,4 @@
-//! Restarts. The fresh attempts are made first, which may be refused; to take them over cannot fail.
+//! Restarts. The fresh attempts are made first, which may fail; to take them over cannot fail.
 ghost use Rattle.std.specs.Prelude.{◌≡◌, ◌≤◌, length, drop, is_some, IfOk};
 ghost use Rattle.core_queue.specs.Queues.{AreFrom};
 ghost use Rattle.core_queue.specs.Events.{KeepsPlace};
@@ -44,7 +44,7 @@ impl QueuedUpdate {
     }
 }
 
-/// The next attempts at those of the updates that have a cause, of which there is one or none for each of the first.
+/// The next attempts at the updates that have a cause. There is one result, which may be none, for each of the first updates.
 pub fn fresh_programs(
     alloc: Global,
     upper: &[QueuedUpdate],
@@ -79,7 +79,7 @@ fn fresh_if(
     }
 }
 
-/// Restarts those of the updates from place `from` on for which there is a fresh attempt, in turn.
+/// Restarts the updates from place `from` on for which there is a fresh attempt.
 pub fn restart_marked(queue: &mut [QueuedUpdate], from: usize, fresh: Vec<Option<Attempt>>)
     requires place { from ≤ length queue.old }
     requires from { AreFrom 1 queue.old }

@@ -7,7 +7,7 @@ pub enum Deps {
     Coarse,
 }
 
-/// Above so many retries an update waits for all lower ones; and how dependence is tested.
+/// How many retries an update has before it waits for all lower ones, and how dependence is tested.
 #[derive(Clone, Copy, Debug, PartialEq, Eq)]
 pub struct Settings {
     pub retries: u32,

@@ -21,7 +21,7 @@ use chase_update::{Lack, Outcome};
 use core_entries::Standing;
 
 impl QueuedUpdate {
-    /// The next answer for the attempt: there is one only where it is at a question. A ready update wants its next step with just
+    /// The next answer for the attempt: there is one only if it is at a question. The next step of a ready update takes just
     /// this.
     pub fn next_answer(&self) -> Option<&Choice>
         requires between { IsBetween self.now.program }
@@ -35,7 +35,7 @@ impl QueuedUpdate {
         }
     }
 
-    /// What the update may do next, where so many updates are committed and it has this number.
+    /// What the update may do next, if `committed` updates are committed and it has this number.
     pub fn standing(&self, settings: Settings, committed: u32, number: u32) -> Standing
         requires between { IsBetween self.now.program }
         ensures standing { HasStanding (settings_of settings) committed number self.now result }
@@ -57,8 +57,8 @@ impl QueuedUpdate {
         is_ready(self.standing(settings, committed, number))
     }
 
-    /// Whether the update is unready, whatever the settings and however many are committed: it was withdrawn, its attempt has
-    /// ended, or something is lacking at its question.
+    /// Whether the update is unready, whatever the settings and the number of committed updates: it was withdrawn, its attempt
+    /// has ended, or something is lacking at its question.
     pub fn is_unready(&self) -> bool
         requires between { IsBetween self.now.program }
         ensures unready { result ≡ true → IsUnready self.now }
@@ -77,7 +77,7 @@ impl QueuedUpdate {
         pending && recorded
     }
 
-    /// The question that is put to people for the update: there is one exactly where it is paused.
+    /// The question that is put to people for the update: there is one exactly if it is paused.
     pub fn question(&self, settings: Settings, committed: u32, number: u32) -> Option<&Question>
         requires between { IsBetween self.now.program }
         ensures question { HasQuestion (settings_of settings) committed number self.now
@@ -142,7 +142,7 @@ fn ended(outcome: Outcome) -> Standing
     }
 }
 
-// The standing of an update that is at a question, where this is lacking.
+// The standing of an update that is at a question at which this is lacking.
 fn paused(lack: Lack) -> Standing
     ensures paused { standing_of result ≡ Paused (lack_of lack) }
 {

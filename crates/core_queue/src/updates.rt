@@ -11,8 +11,8 @@ use chase_update::Attempt;
 use core_conflict::Footprint;
 use std::collections::VecDeque;
 
-/// An update with its present attempt, between two steps: the reads of that attempt, whether the update was withdrawn,
-/// the answers delivered, and those that are recorded and not delivered yet; and what its attempt has to do with writes.
+/// An update with its present attempt, between two steps: the reads of that attempt, whether the update was withdrawn, the
+/// delivered answers, the answers that are recorded and not delivered yet (`inbox`), and the footprint of the attempt.
 #[derive(Debug, Drop)]
 pub struct QueuedUpdate {
     pub program: Attempt,
@@ -31,8 +31,7 @@ impl QueuedUpdate {
         self.program.number()
     }
 
-    /// The writes that others see of it: none where it was withdrawn, or its attempt ended spent or refused. It takes no
-    /// memory.
+    /// The writes that others see of it: none if it was withdrawn, or its attempt ended spent or refused.
     pub fn trail(&self) -> &[Write]
         requires between { IsBetween self.now.program }
         ensures trail { HasTrail self.now result.now }
@@ -43,8 +42,7 @@ impl QueuedUpdate {
         shown(&self.program)
     }
 
-    /// The writes that the step of the plan shows: none where the attempt ends by it spent or refused. It takes no
-    /// memory.
+    /// The writes that the step of the plan shows: none if the attempt ends by it spent or refused.
     pub fn written<'a>(&self, plan: &'a Plan) -> &'a [Write]
         requires between { IsBetween plan.now.program }
         ensures written { HasWritten self.now plan.now result.now }
@@ -66,7 +64,7 @@ impl QueuedUpdate {
         self.withdrawn || outcome(&self.program).is_some()
     }
 
-    /// Whether it is neither withdrawn nor committed, where so many updates are committed and it has this number.
+    /// Whether it is neither withdrawn nor committed, if `committed` updates are committed and it has this number.
     pub fn is_live(&self, committed: u32, number: u32) -> bool
         ensures live { IsLive committed number self.now result }
     {

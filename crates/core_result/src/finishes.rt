@@ -24,7 +24,7 @@ pub(crate) fn finishes(alloc: Global, queue: &[QueuedUpdate]) -> Result<FinishLi
     Ok(finishes)
 }
 
-// Tells how the update ended, unless it was withdrawn.
+// Adds how the update ended, unless it was withdrawn.
 fn tell_one(finishes: &mut FinishList, update: &QueuedUpdate) -> Result<(), Memory>
     requires between { IsBetween update.now.program }
     ensures told { OnOk result (HasToldOne update.now finishes.old finishes.new) }
@@ -35,7 +35,7 @@ fn tell_one(finishes: &mut FinishList, update: &QueuedUpdate) -> Result<(), Memo
     tell_end(finishes, &update.program)
 }
 
-// Tells how the attempt ended, if it did.
+// Adds how the attempt ended, if it did.
 fn tell_end(finishes: &mut FinishList, program: &Attempt) -> Result<(), Memory>
     requires between { IsBetween program.now }
     ensures told { OnOk result (HasToldEnd program.now.attempt finishes.old finishes.new) }

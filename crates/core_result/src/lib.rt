@@ -1,5 +1,5 @@
-//! What is told of the updates of a core, as the serial run tells it: how the committed ones ended, where the lowest that is
-//! not committed stops, and the repository that the committed ones left. Nulls are told by their outer forms.
+//! The result of a core, in the form of the serial run's result: how the committed updates ended, where the lowest that is not
+//! committed stops, and the repository that the committed ones left. Nulls are in their outer forms.
 #![tactic(auto)]
 
 mod finishes;

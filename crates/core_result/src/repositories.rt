@@ -8,7 +8,7 @@ use base_types::{FORCE_RELATION, Memory, TupleList};
 use set_versions::Versions;
 use std::alloc::Global;
 
-/// What the update of this number sees, in order and by outer forms.
+/// The tuples that the update of this number sees, in order and in outer form.
 pub(crate) fn repository(
     alloc: Global,
     versions: &Versions,

@@ -1,4 +1,4 @@
-//! What is told of the updates of a core.
+//! The result of a core.
 ghost use Rattle.std.specs.Prelude.{ℕ, List, IfOk, ◌-◌, ◌<◌, ◌^◌, length};
 ghost use Rattle.def_chase.specs.Mappings.{Rule};
 ghost use Rattle.def_chase.specs.Values.{Fact};
@@ -15,7 +15,7 @@ use set_versions::Versions;
 use std::alloc::Global;
 
 /// How the committed updates ended, where the lowest that is not committed stops, and the repository that the committed ones
-/// left, by outer forms.
+/// left. Nulls are in their outer forms.
 pub fn told(
     alloc: Global,
     queue: &[QueuedUpdate],

@@ -16,7 +16,7 @@ use chase_update::{Attempt, Lack, Stop};
 use core_queue::{QueuedUpdate, asked};
 use std::alloc::Global;
 
-/// Where the lowest update stops that is not committed, if there is one and something is lacking at its question.
+/// Where the lowest update that is not committed stops, if there is one and something is lacking at its question.
 pub(crate) fn stop(alloc: Global, queue: &[QueuedUpdate]) -> Result<Option<Stop>, Memory>
     requires from { AreFrom 1 queue.now }
     ensures told { IfOk result (IsStop queue.now) }
@@ -29,7 +29,7 @@ pub(crate) fn stop(alloc: Global, queue: &[QueuedUpdate]) -> Result<Option<Stop>
     Ok(None)
 }
 
-// The stop of the update of this number at the question of its attempt, where this is lacking.
+// The stop of the update of this number at the question of its attempt, at which this is lacking.
 fn stop_at(
     alloc: Global,
     update: u32,
@@ -50,7 +50,7 @@ fn stop_at(
     }
 }
 
-// The question by outer forms.
+// The question in outer form.
 fn outer_form(alloc: Global, question: &Question) -> Result<Question, Memory>
     ensures told { IfOk result (λ form. inquiry_of form ≡ outer_inquiry (inquiry_of question.now)) }
 {
@@ -71,7 +71,7 @@ fn outer_form(alloc: Global, question: &Question) -> Result<Question, Memory>
     }
 }
 
-// The tuples by outer forms.
+// The tuples in outer form.
 fn outer_forms(alloc: Global, tuples: &TupleList) -> Result<TupleList, Memory>
     ensures told { IfOk result (λ forms. facts_of forms ≡ map outer (facts_of tuples.now)) }
 {

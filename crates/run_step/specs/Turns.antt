@@ -1,4 +1,4 @@
--- What an attempt between two steps does next, and what it comes to by it.
+-- What an attempt between two steps does next, and its state after that.
 use Rattle.std.specs.Prelude.{◌≡◌, ℕ, List, Option, Some, None, slice_get, if◌then◌else◌}
 use Rattle.def_machine.specs.Trees.{result_of}
 use Rattle.def_machine.specs.Standings.{Lack, Missing, Misfit}
@@ -16,17 +16,18 @@ use Rattle.chase_eval.specs.Watched.{Watched}
 use Rattle.chase_update.specs.Courses.{State, between, coming_to, course}
 use Rattle.chase_update.specs.Wishes.{Wish, WishesReply, WishesChoice, WishesNothing, WishesStep, Fits}
 
--- What an attempt does next: a step, with this answer where it is at a question; or it rests, at its end or for what is lacking.
+-- What an attempt does next: a step, with this answer if it is at a question; or it rests, because it has ended or because
+-- something is lacking.
 pub data Next : Type 0 where
   Steps : Option Choice → Next
   Rests : Option Lack → Next
 
--- At a question, with the next answer if there is one.
+-- What comes next at a question, with the next answer if there is one.
 abbrev pub at_question : Inquiry → Option Choice → Next
 at_question i None = Rests (Some Missing)
 at_question i (Some c) = if fits_inquiry i c then Steps (Some c) else Rests (Some Misfit)
 
--- What is done where this is wanted, so many answers were taken, and these are all.
+-- What an attempt does next that wishes this, if `taken` answers were taken and these are all answers.
 abbrev pub next_by : Wish → ℕ → List Choice → Next
 next_by (WishesReply q) taken answers = Steps None
 next_by (WishesChoice i) taken answers = at_question i (slice_get answers taken)
@@ -38,11 +39,11 @@ abbrev pub StepsBy : Wish → Option Choice → Type 0
 StepsBy w None = w ≡ WishesStep
 StepsBy w (Some c) = Fits w c
 
--- What a query is answered in the view.
+-- The reply to a query in the view.
 abbrev pub answer_in : List Rule → Watched → Query → Reply
 answer_in ms v q = value ms q v.below v.own (Caused v.heading)
 
--- The program at the end of its step in hand, whose queries are answered in the view.
+-- The program at the end of its present step, whose queries are answered in the view.
 abbrev pub ended_in : List Rule → Watched → State → State
 ended_in ms v s = between (result_of (answer_in ms v) (course ms s))
 
@@ -50,7 +51,7 @@ ended_in ms v s = between (result_of (answer_in ms v) (course ms s))
 abbrev pub view_of : List Rule → List Fact → Attempt → Watched
 view_of ms D P = record { rules = ms; heading = direction_of P.operation; below = D; own = P.own }
 
--- What is seen with these own writes in place of those before.
+-- The view with these own writes in place of its own.
 abbrev pub seen_with : Watched → List Change → Watched
 seen_with v own = record { rules = v.rules; heading = v.heading; below = v.below; own = own }
 

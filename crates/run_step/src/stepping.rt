@@ -16,9 +16,9 @@ use chase_update::{Attempt, Want};
 use set_facts::IndexedFacts;
 use std::alloc::Global;
 
-/// One step of the program over the repository that the view is of, with the answer where it is at a question. The view is of
-/// these mappings and in the program's direction. It sees the program's own writes, and then also those of the step. If it is
-/// refused, the program may be within the step.
+/// Makes one step of the program over the repository of the view, with the answer if the program is at a question. The view has
+/// these mappings and the program's direction. It sees the program's own writes, and afterwards also those of the step. On an
+/// error, the program may be within the step.
 pub fn step(
     alloc: Global,
     program: &mut Attempt,
@@ -42,7 +42,7 @@ pub fn step(
     see_all(alloc, view, program.own(), seen)
 }
 
-/// Makes the step. The view sees the own writes from before it still; `see_all` shows it those of the step. If it is refused, the
+/// Makes the step. The view still sees only the own writes from before it; `see_all` adds those of the step. On an error, the
 /// program may be within the step.
 pub fn make(
     alloc: Global,
@@ -66,7 +66,8 @@ pub fn make(
     answer_all(alloc, program, view, mappings)
 }
 
-/// Lets the view see all of the own writes, of which it has seen so many. If it is refused, the view may see some of the others.
+/// Lets the view see all of the own writes, of which it has seen the first `seen`. On an error, the view may see some of the
+/// others.
 pub fn see_all(
     alloc: Global,
     view: &mut WatchedView<'_, IndexedFacts>,
@@ -99,7 +100,7 @@ fn begin(
     }
 }
 
-// Answers the queries of the step in hand from the view, up to the step's end.
+// Answers the queries of the present step from the view, up to the step's end.
 fn answer_all(
     alloc: Global,
     program: &mut Attempt,

@@ -12,15 +12,15 @@ use base_types::{Choice, ChoiceList};
 use chase_question::{Question, fits};
 use chase_update::{Attempt, Lack, Want};
 
-/// What comes next: a step, with the answer where the program is at a question; or a rest, at its end or for what is
-/// lacking.
+/// What comes next: a step, with the answer if the program is at a question; or a rest, because it has ended or because
+/// something is lacking.
 #[derive(Clone, Copy)]
 pub enum Next<'a> {
     Step(Option<&'a Choice>),
     Rest(Option<Lack>),
 }
 
-/// What comes next, where these are all answers.
+/// What comes next, given all answers.
 pub fn what_next<'a>(program: &Attempt, answers: &'a ChoiceList) -> Next<'a>
     ensures next { next_of result ≡ next_by (wish program.now) program.now.attempt.taken
         (choices_of answers.now) }
