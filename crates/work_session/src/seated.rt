@@ -20,7 +20,7 @@ pub struct Seated<'s> {
 /// When a seat that makes several moves in one turn delivers an answer.
 #[derive(Clone, Copy)]
 pub enum Answers {
-    /// As soon as the first update that is not committed waits for one: then the updates above it restart less often.
+    /// To the first update that is not committed, as soon as it waits for one: then the updates above it restart less often.
     AtOnce,
     /// If no step can be made, as for a seat that asks for a ticket.
     Last,
