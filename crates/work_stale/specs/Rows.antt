@@ -20,7 +20,8 @@ asks_for r = record { query = Present (tuple r); reply = No; own = 0 }
 abbrev pub three : List PlainEntry
 three = WasAdmitted 1 ∷ WasAdmitted 2 ∷ WasAdmitted 3 ∷ []
 
--- A step of update i, with its standing after it, its writes and the updates that it restarts.
+-- The cause by which update i restarts; a step of update i, with its standing after it, its writes and the causes of its
+-- restarts.
 abbrev pub dependence : ℕ → PlainCause
 dependence i = Dependent (record { reader = i; read = 1; on = 1 })
 
