@@ -1,4 +1,4 @@
--- Which status a run must have where nothing fails.
+-- Which status a run must have if no device fails.
 use Rattle.std.specs.Prelude.{◌≡◌, ℕ, ◌≤◌, ◌⊎◌, List, Some, length}
 use Rattle.cmd_frame.specs.Devices.{Change, Fails}
 use Rattle.cmd_frame.specs.Outputs.{Meaning, OutputView}
@@ -7,9 +7,8 @@ use Rattle.cmd_frame.specs.declared.performing.TheConstants.{INPUT_LIMIT}
 use Rattle.cmd_frame.specs.declared.statuses.Status.{Status}
 use Rattle.cmd_frame.specs.declared.statuses.Status.TheVariants.{OutOfMemory}
 
--- where the source has this input within the limit, every output that the command may make of it
--- has one status, and neither the source nor `out` failed, the run ends with that status, or for
--- want of memory
+-- If the source has this input within the limit, all outputs that the command may make of it have one status, and neither the
+-- source nor `out` failed, then the run ends with that status or for want of memory.
 abbrev pub IsComplete : Status → Meaning → Change → Change → Type 0
 IsComplete status gives source out =
     (input : List ℕ) (due : Status) → source.bytes ≡ Some input → length input ≤ INPUT_LIMIT

@@ -4,14 +4,14 @@ use Rattle.std.specs.Io.KnownBytes.{Appends, Consumes, IsAtEnd, Keeps}
 use Rattle.base_devices.specs.Faults.{Rose}
 use Rattle.base_devices.specs.Writing.{TakesAllOrPrefix, TakesPrefix}
 
--- what a device tells of its bytes and how often it has failed, before and after a call
+-- what is known of a device's bytes, and how often it has failed, before and after a call
 pub record Change : Type 0 where
   pub bytes : Option (List ℕ)
   pub bytes_after : Option (List ℕ)
   pub faults : ℕ
   pub faults_after : ℕ
 
--- the change of a device, by what it tells and its count of faults
+-- the change of a device, from what is known of its bytes and its count of faults
 abbrev pub change : {D : Type 0} → (D → Option (List ℕ)) → (D → ℕ) → D → D → Change
 change told fault_count before after =
     record {
@@ -25,16 +25,16 @@ change told fault_count before after =
 abbrev pub no_input : Change
 no_input = record { bytes = Some []; bytes_after = Some []; faults = 0; faults_after = 0 }
 
--- the device failed: its count of faults rose, or stands at its last value
+-- the device failed: its count of faults rose, or is at its last value
 abbrev pub Fails : Change → Type 0
 Fails device = Rose device.faults device.faults_after
 
--- the source gave some bytes, and this holds of how many
+-- the source gave some bytes, and `many` holds of their number
 abbrev pub Gives : Change → (ℕ → Type 0) → Type 0
 Gives source many =
     (bytes : List ℕ) × Consumes source.bytes source.bytes_after bytes × many (length bytes)
 
--- the source gave all that it had, no more than the limit, and this holds of those bytes
+-- the source gave all its bytes, no more than the limit, and `holds` holds of them
 abbrev pub GivesAll : ℕ → Change → (List ℕ → Type 0) → Type 0
 GivesAll limit source holds =
     (bytes : List ℕ) × Consumes source.bytes source.bytes_after bytes
@@ -52,7 +52,7 @@ TakesSome sink bytes = TakesPrefix sink.bytes sink.bytes_after bytes
 abbrev pub TakesNothing : Change → Type 0
 TakesNothing sink = Keeps sink.bytes sink.bytes_after
 
--- the sink took the line, or a prefix of it where it failed
+-- the sink took the line, or failed and took a prefix of it
 abbrev pub Tells : Change → List ℕ → Type 0
 Tells sink line =
     TakesAllOrPrefix sink.bytes sink.bytes_after sink.faults sink.faults_after line

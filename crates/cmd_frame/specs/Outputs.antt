@@ -10,12 +10,11 @@ pub data OutputView : Type 0 where
   Text : Ending → List ℕ → OutputView
   Refused : Refusal → List ℕ → OutputView
 
--- what a command may make of an input: one output where it is a function, and any of several where
--- threads decide
+-- what a command may make of an input: one output if it is a function, any of several if threads decide
 abbrev pub Meaning : Type 1
 Meaning = List ℕ → OutputView → Type 0
 
--- the output without where its text lies in memory
+-- the output as plain data, without the place of its text in memory
 abbrev pub view_of : Output → OutputView
 view_of (outputs.Text ending text) = Text ending text.items
 view_of (outputs.Refused refusal line) = Refused refusal line.items

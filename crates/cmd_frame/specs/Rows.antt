@@ -1,4 +1,4 @@
--- The table of statuses: for each what was read, what `out` took and what `err` was told.
+-- The table of statuses: for each status what was read, and what `out` and `err` took.
 use Rattle.std.specs.Prelude.{◌≡◌, ℕ, ◌<◌, ◌≤◌, ◌⊎◌, List, Result, Ok, Err}
 use Rattle.cmd_frame.specs.Devices.{Change, Fails, Gives, GivesAll, Takes, TakesSome, TakesNothing, Tells}
 use Rattle.cmd_frame.specs.Outputs.{Meaning, OutputView, Text, Refused, view_of}
@@ -14,14 +14,14 @@ use Rattle.cmd_frame.specs.declared.failures.Failure.TheVariants as failures
 use Rattle.cmd_frame.specs.declared.statuses.Status.{Status}
 use Rattle.cmd_frame.specs.declared.statuses.Status.TheVariants.{Ended, Stuck, Usage, SessionRefused, BaseViolates, ReadFault, WriteFault, OutOfMemory, TooLong, TooLarge, Refuted, QueryRefused, Damaged}
 
--- the command made a text of the whole input, and `out` took it; `err` was told nothing
+-- the command made a text of the whole input, and `out` took it; `err` took nothing
 abbrev pub Ends : Ending → Meaning → Change → Change → Change → Type 0
 Ends ending gives source out err =
     GivesAll INPUT_LIMIT source (λ input.
     (text : List ℕ) × gives input (Text ending text) × Takes out text)
     × TakesNothing err
 
--- the command refused the whole input, and `err` was told why; `out` took nothing
+-- the command refused the whole input, and `err` took the line that says why; `out` took nothing
 abbrev pub Refuses : Refusal → Meaning → Change → Change → Change → Type 0
 Refuses refusal gives source out err =
     GivesAll INPUT_LIMIT source (λ input.
@@ -35,8 +35,8 @@ FailsWriting gives source out err =
     (ending : Ending) × (text : List ℕ) × gives input (Text ending text) × TakesSome out text)
     × Fails out × Tells err (line_of failures.WriteFault)
 
--- why a command has no output: the source failed, or memory was wanting, before more than the limit
--- was taken; or more than the limit was taken
+-- why a command has no output: the source failed, or memory ran out, before more than the limit was read; or more than the limit
+-- was read
 abbrev pub Lacks : Failure → Change → Type 0
 Lacks failures.Usage source = ⊥
 Lacks failures.ReadFault source = Gives source (λ count. count ≤ INPUT_LIMIT) × Fails source
@@ -44,13 +44,12 @@ Lacks failures.WriteFault source = ⊥
 Lacks failures.OutOfMemory source = Gives source (λ count. count ≤ INPUT_LIMIT)
 Lacks failures.TooLong source = Gives source (λ count. INPUT_LIMIT < count)
 
--- the command has no output for this reason, which `err` was told; `out` took nothing
+-- the command has no output for this reason, whose line `err` took; `out` took nothing
 abbrev pub FailsBefore : Failure → Change → Change → Change → Type 0
 FailsBefore failure source out err =
     Lacks failure source × TakesNothing out × Tells err (line_of failure)
 
--- the row of each status, for a command that makes such outputs of its input; its words were judged
--- before
+-- the row of each status, for a command that makes outputs as `gives` says; its words were checked before
 abbrev pub Row : Status → Meaning → Change → Change → Change → Type 0
 Row Ended gives source out err = Ends endings.Ended gives source out err
 Row Stuck gives source out err = Ends endings.Stuck gives source out err
@@ -73,7 +72,7 @@ Makes (Ok output) gives source =
     GivesAll INPUT_LIMIT source (λ input. gives input (view_of output))
 Makes (Err failure) gives source = Lacks failure source
 
--- a text was written whole, or `out` failed and took a prefix of it; a refusal was told
+-- a text was written whole, or `out` failed and took a prefix of it; the line of a refusal was written to `err`
 abbrev pub Delivers : Status → OutputView → Change → Change → Type 0
 Delivers status (Text ending text) out err =
     ((status ≡ status_of_ending ending) × Takes out text × TakesNothing err)

@@ -56,7 +56,7 @@ status_of_failure failures.WriteFault = WriteFault
 status_of_failure failures.OutOfMemory = OutOfMemory
 status_of_failure failures.TooLong = TooLong
 
--- the line that tells a failure
+-- the line that says a failure
 abbrev pub line_of : Failure → List ℕ
 line_of failures.Usage = codes "youtopia: usage: youtopia COMMAND [OPTIONS]\n"
 line_of failures.ReadFault = codes "youtopia: read fault\n"
@@ -64,7 +64,7 @@ line_of failures.WriteFault = codes "youtopia: write fault\n"
 line_of failures.OutOfMemory = codes "youtopia: out of memory\n"
 line_of failures.TooLong = codes "youtopia: input longer than 16777216 bytes\n"
 
--- why a run fails whose input was not read to its end
+-- why a run fails if its input was not read to its end
 abbrev pub of_read_refusal : ReadRefusal → Failure
 of_read_refusal reading.ReadFault = failures.ReadFault
 of_read_refusal reading.TooLong = failures.TooLong

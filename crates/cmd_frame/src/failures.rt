@@ -1,4 +1,4 @@
-// Why a run fails whatever its command is.
+// The failures that a run may have with any command.
 ghost use Rattle.std.specs.Prelude.{◌≡◌};
 ghost use Rattle.cmd_frame.specs.Statuses.{line_of, of_read_refusal};
 ghost use Rattle.cmd_frame.specs.declared.failures.Failure.TheVariants.{OutOfMemory};
@@ -6,8 +6,7 @@ ghost use Rattle.cmd_frame.specs.declared.failures.Failure.TheVariants.{OutOfMem
 use base_devices::ReadRefusal;
 use def_memory::Memory;
 
-/// Why a run fails whatever its command is: by its words, its devices, its memory or the length of
-/// its input.
+/// Why a run fails, with any command: its words, its devices, its memory, or the length of its input.
 #[derive(Clone, Copy, Debug, PartialEq, Eq)]
 pub enum Failure {
     /// The words are refused.
@@ -16,14 +15,14 @@ pub enum Failure {
     ReadFault,
     /// `out` failed.
     WriteFault,
-    /// Memory was wanting.
+    /// Memory ran out.
     OutOfMemory,
     /// The input is longer than the limit.
     TooLong,
 }
 
 impl Failure {
-    /// The line that tells it, with its line end.
+    /// The line for `err` that says it, with its line feed.
     pub fn line(self) -> &'static [u8]
         ensures { result.now ≡ line_of self }
     {

@@ -1,6 +1,5 @@
-//! One command between a source and two sinks: it reads all its input, makes its output, and writes
-//! it or says in one line on `err` why it does not. The rows of the table of statuses are the
-//! contract.
+//! One command between a source and two sinks: it reads all its input, makes its output, and writes it, or says on `err` in one
+//! line why not. The contract is the table of statuses, row by row.
 #![tactic(auto)]
 
 mod failures;

@@ -6,7 +6,7 @@ ghost use Rattle.cmd_frame.specs.Outputs.{Meaning, view_of};
 use def_memory::Memory;
 use std::alloc::Global;
 
-/// How a command ended that wrote its text.
+/// How a command that wrote its text ended.
 #[derive(Clone, Copy, Debug, PartialEq, Eq)]
 pub enum Ending {
     /// It did its work.
@@ -37,7 +37,7 @@ pub enum Refusal {
 pub enum Output {
     /// The text for `out`.
     Text(Ending, Vec<u8>),
-    /// No text, and the line for `err` that says why, with its line end.
+    /// No text, and the line for `err` that says why, with its line feed.
     Refused(Refusal, Vec<u8>),
 }
 
@@ -46,7 +46,7 @@ pub trait Command {
     /// What the command may make of an input.
     ghost gives: { Self → Meaning };
 
-    /// The output for the input, which is no longer than the limit. Memory for the whole of it is taken here.
+    /// Makes the output for an input of at most `INPUT_LIMIT` bytes. It takes the memory for the whole output.
     fn run(&self, alloc: Global, input: &[u8]) -> Result<Output, Memory>
         requires short { length input.now ≤ INPUT_LIMIT }
         ensures { IfOk result (λ output. gives self.now input.now (view_of output)) };

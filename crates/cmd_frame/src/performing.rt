@@ -14,9 +14,9 @@ use std::alloc::Global;
 /// The most bytes that an input may have.
 pub const INPUT_LIMIT: usize = MOST_BYTES;
 
-/// Reads all of `source`, runs the command on it, and writes its text to `out` or its refusal to
-/// `err`. Each status has its row, which says what was read, written and told. A fault of `err`
-/// changes no status; it leaves a prefix of the line there.
+/// Reads all of `source`, runs the command on it, and writes its text to `out` or its refusal to `err`. The row of each status
+/// says what was read, and what was written to `out` and to `err`. A fault of `err` changes no status; then `err` has a prefix of
+/// the line.
 pub fn perform<C: Command, S: Source, O: Sink, E: Sink>(
     alloc: Global,
     command: &C,
@@ -58,7 +58,7 @@ pub fn perform_alone<C: Command, O: Sink, E: Sink>(
     }
 }
 
-// Reads all that the source has, and makes the command's output of it.
+// Reads all of the source, and makes the command's output of it.
 fn read_and_run<C: Command, S: Source>(
     alloc: Global,
     command: &C,
@@ -72,7 +72,7 @@ fn read_and_run<C: Command, S: Source>(
     Ok(output)
 }
 
-/// Writes the text of an output to `out`, or tells its refusal on `err`. No memory is taken.
+/// Writes the text of an output to `out`, or the line of its refusal to `err`.
 pub fn deliver<O: Sink, E: Sink>(output: Output, out: &mut O, err: &mut E) -> Status
     ensures { Delivers result (view_of output)
         (change O.taken O.fault_count out.old out.new)
@@ -90,7 +90,7 @@ pub fn deliver<O: Sink, E: Sink>(output: Output, out: &mut O, err: &mut E) -> St
     }
 }
 
-/// Tells a failure on `err`.
+/// Writes the line of a failure to `err`.
 pub fn fail<E: Sink>(failure: Failure, err: &mut E) -> Status
     ensures status { result ≡ status_of_failure failure }
     ensures told { Tells (change E.taken E.fault_count err.old err.new) (line_of failure) }

@@ -21,7 +21,7 @@ pub enum Status {
     ReadFault,
     /// `out` failed.
     WriteFault,
-    /// Memory was wanting.
+    /// Memory ran out.
     OutOfMemory,
     /// The input is longer than the limit.
     TooLong,

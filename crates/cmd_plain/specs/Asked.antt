@@ -15,23 +15,23 @@ use Rattle.lang_session.specs.Base.{base_violation}
 use Rattle.cmd_plain.specs.Commands.{unless_violated}
 use Rattle.cmd_plain.specs.Runs.{ending_by}
 
--- the line that tells why a query does not go with the relations
+-- the line that says why a query does not fit the relations
 abbrev pub query_line : Kind → List ℕ
 query_line kind = codes "youtopia: query: " ++ (kind_text kind ++ 10 ∷ [])
 
--- what is printed of a run: the certain answers over the repository that it left
+-- the output of a run: the certain answers over the repository that it left
 abbrev pub answers_output : ResultTold → ConjunctiveQuery → OutputView
 answers_output told q = Text (ending_by told.stop) (answers_text (certain_answers q told.repository))
 
--- the same, unless the query does not go with the relations
+-- the certain answers, or the refusal if the query does not fit the relations
 abbrev pub asked_over : ResultTold → Result ConjunctiveQuery Kind → OutputView
 asked_over told (Ok q) = answers_output told q
 asked_over told (Err kind) = Refused QueryRefused (query_line kind)
 
--- the query asked over what the serial machine leaves, with so many steps for each update
+-- the query asked over the repository that the serial machine leaves, with `steps` steps for each update
 abbrev pub asked_of : ℕ → WrittenAsk → SessionData → OutputView
 asked_of steps q s = asked_over (serial_told steps s) (bound_ask s.relations q)
 
--- `ask`: that, where the base meets the mappings
+-- `ask`: the answers, if the base meets the mappings
 abbrev pub asked : ℕ → WrittenAsk → SessionData → OutputView
 asked steps q s = unless_violated s (asked_of steps q s) (base_violation s)

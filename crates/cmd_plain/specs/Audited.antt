@@ -14,7 +14,7 @@ use Rattle.lang_report.specs.Results.{result_text, serial_told}
 use Rattle.lang_session.specs.Base.{Violated, base_violation}
 use Rattle.audit_claims.specs.Verdicts.{IsVerdict, Verdict, Yes, No, trial_of, verdict_text}
 
--- how a command ends that tells this
+-- how the command ends with this verdict
 abbrev pub ending_of : Verdict → Ending
 ending_of (Yes n quiet) = Ended
 ending_of (No line why) = Refuted
@@ -23,7 +23,7 @@ ending_of (No line why) = Refuted
 abbrev pub verdict_output : Verdict → OutputView
 verdict_output v = Text (ending_of v) (verdict_text v ++ 10 ∷ [])
 
--- The verdict on the trace is told.
+-- The output is a verdict on the trace.
 abbrev pub IsJudged : ℕ → Settings → SessionData → List ℕ → OutputView → Type 0
 IsJudged budget c s trace output = (v : Verdict) × IsVerdict (trial_of s budget c) trace v × (output ≡ verdict_output v)
 
@@ -31,34 +31,34 @@ IsJudged budget c s trace output = (v : Verdict) × IsVerdict (trial_of s budget
 abbrev pub own_result : ℕ → SessionData → List ℕ
 own_result budget s = result_text s (serial_told budget s)
 
--- What stands behind the session begins with a result text, and this is that of its run; it is another one.
+-- What follows the session begins with a result text, which is the one of its run; then, which is another one.
 abbrev pub HasOwnResult : ℕ → SessionData → List ℕ → Type 0
 HasOwnResult budget s rest = IsResult rest × (result_in rest ≡ own_result budget s)
 
 abbrev pub HasOtherResult : ℕ → SessionData → List ℕ → Type 0
 HasOtherResult budget s rest = IsResult rest × (result_in rest ≡ own_result budget s → ⊥)
 
--- what is told of another result, whatever the trace behind it
+-- the output for another result text, whatever trace follows it
 abbrev pub no_result : OutputView
 no_result = Text Refuted (codes "no result\n")
 
--- What is made of what stands behind the session: a trace, a trace behind the result text of its run, or another result text.
+-- The output for what follows the session: a trace, the result text of its run and a trace, or another result text.
 abbrev pub IsAudited : ℕ → Settings → SessionData → List ℕ → OutputView → Type 0
 IsAudited budget c s rest output =
     ((IsResult rest → ⊥) × IsJudged budget c s rest output)
     ⊎ ((HasOwnResult budget s rest × IsJudged budget c s (behind_result rest) output)
     ⊎ (HasOtherResult budget s rest × (output ≡ no_result)))
 
--- The base has to meet the mappings.
+-- The output, or the refusal if the base violates a mapping.
 abbrev pub IsAuditedUnless : Option Violated → ℕ → Settings → SessionData → List ℕ → OutputView → Type 0
 IsAuditedUnless None budget c s rest output = IsAudited budget c s rest output
 IsAuditedUnless (Some v) budget c s rest output = output ≡ Refused BaseViolates (base_line s.relations v)
 
--- what is made of a session, with this behind it
+-- the output for a session and what follows it
 abbrev pub auditing : ℕ → Settings → List ℕ → SessionData → OutputView → Type 0
 auditing budget c rest s output = IsAuditedUnless (base_violation s) budget c s rest output
 
--- `audit`, with so many steps for each attempt and these settings: the session at the front of the input is read, and what stands
--- behind it is judged
+-- `audit`, with `budget` steps for each attempt and these settings: the session at the front of the input is read, and what
+-- follows it is judged
 abbrev pub audited : ℕ → Settings → Meaning
 audited budget c input output = MadeOf (auditing budget c (behind_session input)) (read (session_in input)) output

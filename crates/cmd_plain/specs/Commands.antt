@@ -12,16 +12,16 @@ use Rattle.lang_print.specs.Upgrades.{upgraded}
 use Rattle.lang_session.specs.Base.{Violated, base_violation}
 use Rattle.cmd_plain.specs.Base.{base_line}
 
--- what users are told of an input that spells no session: the first fault, in one line
+-- the line for an input that spells no session: its first fault
 abbrev pub fault_line : Wrong → List ℕ
 fault_line wrong = codes "youtopia: " ++ (wrong_text wrong ++ 10 ∷ [])
 
--- an output of the session that was read, or the refusal by its first fault
+-- an output for the session that was read, or the refusal with the first fault
 abbrev pub MadeOf : (SessionData → OutputView → Type 0) → Result SessionData Wrong → OutputView → Type 0
 MadeOf makes (Ok s) output = makes s output
 MadeOf makes (Err wrong) output = output ≡ Refused SessionRefused (fault_line wrong)
 
--- a command that may make several outputs of a session, as one on the bytes that spell it
+-- a command that may make several outputs of a session, as a command on the bytes that spell it
 abbrev pub on_session_by : (SessionData → OutputView → Type 0) → Meaning
 on_session_by makes input output = MadeOf makes (read input) output
 
@@ -29,7 +29,7 @@ on_session_by makes input output = MadeOf makes (read input) output
 abbrev pub on_session : (SessionData → OutputView) → Meaning
 on_session make = on_session_by (λ s output. output ≡ make s)
 
--- an output, where the base violates no mapping
+-- the output if the base violates no mapping, and otherwise the refusal
 abbrev pub unless_violated : SessionData → OutputView → Option Violated → OutputView
 unless_violated s output None = output
 unless_violated s output (Some v) = Refused BaseViolates (base_line s.relations v)
@@ -38,7 +38,7 @@ unless_violated s output (Some v) = Refused BaseViolates (base_line s.relations 
 abbrev pub formatted : SessionData → OutputView
 formatted s = Text Ended (printed s)
 
--- `upgrade`: that of the same session in format 2
+-- `upgrade`: the printed form of the session in format 2
 abbrev pub upgraded_text : SessionData → OutputView
 upgraded_text s = Text Ended (printed (upgraded s))
 
@@ -49,6 +49,6 @@ count_line s =
     ++ (decimal (length s.base) ++ (codes " updates " ++ (decimal (length s.updates) ++ (codes " answers "
     ++ (decimal (answer_count s.updates) ++ 10 ∷ [])))))))))
 
--- `check`: the numbers of its parts, where its base meets the mappings in force from the start
+-- `check`: the numbers of the session's parts, if its base meets the mappings in force from the start
 abbrev pub checked : SessionData → OutputView
 checked s = unless_violated s (Text Ended (count_line s)) (base_violation s)

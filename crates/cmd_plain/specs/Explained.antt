@@ -16,36 +16,36 @@ use Rattle.lang_report.specs.Results.{serial_told}
 use Rattle.lang_session.specs.Base.{base_violation}
 use Rattle.lang_session.specs.Meanings.{requests_in}
 
--- what is told of a tuple that is not there
+-- the text for a tuple that is absent
 abbrev pub absent_text : List ℕ
 absent_text = codes "absent\n"
 
--- the lines of its reasons, or that it is absent
+-- the lines of the tuple's reasons, or that it is absent
 abbrev pub reasons_text : SessionData → Option (List Reason) → List ℕ
 reasons_text s None = absent_text
 reasons_text s (Some reasons) = explanation_text s reasons
 
--- the explanation of a tuple in what the serial machine leaves, with so many steps for each update
+-- the explanation of a tuple in the repository that the serial machine leaves, with `steps` steps for each update
 abbrev pub explanation_in : ℕ → SessionData → Fact → Option (List Reason)
 explanation_in steps s t = explanation (rules_of s.mappings) steps s.base (requests_in s) t
 
--- a fact that goes with no relation is in no repository
+-- the reasons for a fact; one that fits no relation is in no repository
 abbrev pub reasons_for : ℕ → SessionData → Option Fact → Option (List Reason)
 reasons_for steps s None = None
 reasons_for steps s (Some t) = explanation_in steps s t
 
--- what is printed of a run with these reasons
+-- the output of a run, with these reasons
 abbrev pub reasons_output : SessionData → ResultTold → Option (List Reason) → OutputView
 reasons_output s told reasons = Text (ending_by told.stop) (reasons_text s reasons)
 
--- what is printed of a run that left no such tuple
+-- the output of a run that left no such tuple
 abbrev pub absent_output : ResultTold → OutputView
 absent_output told = Text (ending_by told.stop) absent_text
 
--- the fact explained in what the serial machine leaves
+-- the fact, explained in the repository that the serial machine leaves
 abbrev pub explained_of : ℕ → WrittenFact → SessionData → OutputView
 explained_of steps fact s = reasons_output s (serial_told steps s) (reasons_for steps s (known_fact (fact_of s.relations fact)))
 
--- `explain`: that, where the base meets the mappings
+-- `explain`: the explanation, if the base meets the mappings
 abbrev pub explained : ℕ → WrittenFact → SessionData → OutputView
 explained steps fact s = unless_violated s (explained_of steps fact s) (base_violation s)

@@ -31,11 +31,11 @@ abbrev pub journal_output : SessionData → TrailsTold → OutputView
 journal_output s left =
     if is_too_long (journal_of s left.trails) then Refused TooLarge too_large_line else Text (ending_by left.stop) (journal_of s left.trails)
 
--- what the serial machine leaves of a session, with so many steps for each update
+-- what the serial machine leaves of a session, with `steps` steps for each update
 abbrev pub left_of : ℕ → SessionData → TrailsTold
 left_of steps s = serial_trailed (rules_of s.mappings) steps s.base (requests_in s)
 
--- `journal` with so many steps for each update: the journal of what the run leaves, where the base meets the mappings
+-- `journal` with `steps` steps for each update: the journal of what the run leaves, if the base meets the mappings
 abbrev pub journaled : ℕ → SessionData → OutputView
 journaled steps s = unless_violated s (journal_output s (left_of steps s)) (base_violation s)
 
@@ -53,30 +53,30 @@ commits_line n = codes "commits " ++ (decimal n ++ 10 ∷ [])
 abbrev pub repository_line : ℕ → List ℕ
 repository_line n = codes "repository " ++ (decimal n ++ 10 ∷ [])
 
--- the number of commits, that of the tuples, and the tuples in order
+-- the number of commits, the number of tuples, and the tuples in order
 abbrev pub recovered_text : ℕ → List RelationSchema → List Fact → List ℕ
 recovered_text commits relations facts = (commits_line commits ++ repository_line (length facts)) ++ tuple_lines relations facts
 
--- the line that tells where the bytes are damaged
+-- the line that says where the bytes are damaged
 abbrev pub damaged_line : ℕ → List ℕ
 damaged_line place = codes "youtopia: journal damaged at " ++ (decimal place ++ 10 ∷ [])
 
--- what is told of a journal: how many commits it has, and the repository that they leave
+-- the output for a journal: its number of commits, and the repository that they leave
 abbrev pub RecoversWhole : List ℕ → OutputView → Type 0
 RecoversWhole input output =
     (s : SessionData) × (commits : List (List Change)) × IsJournal s commits input × (output ≡ Text Ended (recovered_text (length commits) s.relations (repository_of s commits)))
 
--- what is told of bytes that do not begin with a journal
+-- the output for bytes that do not begin with a journal
 abbrev pub RefusesDamaged : List ℕ → OutputView → Type 0
 RefusesDamaged input output = (place : ℕ) × IsDamagedAt input place × (output ≡ Refused Damaged (damaged_line place))
 
--- `recover`: what the journal stands for with which the input begins, or where it is damaged
+-- `recover`: what the journal at the front of the input stands for, or where the input is damaged
 abbrev pub recovering : Meaning
 recovering input output = RecoversWhole input output ⊎ RefusesDamaged input output
 
 -- ---- a journal in the making
 
--- The disk in memory has the journal of the session with these commits and nothing else, whole, and no call of it fails.
+-- The disk in memory has the whole journal of the session with these commits and nothing else, and no call of it fails.
 pub record HasJournal (disk : MemState) (s : SessionData) (commits : List (List Change)) (hold : Hold) : Type 0 where
   pub at : IsAt (state_of disk) s commits hold
   pub text : bytes_of disk ≡ journal_text s commits

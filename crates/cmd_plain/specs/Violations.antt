@@ -4,6 +4,6 @@ use Rattle.base_types.specs.Meanings.{fact_of}
 use Rattle.cmd_plain.specs.declared.base.Violated.{Violated}
 use Rattle.lang_session.specs.Base as meant
 
--- the violated mapping by its name, and the image
+-- the name of the violated mapping, and the image
 abbrev pub violated_of : Violated → meant.Violated
 violated_of v = record { name = v.mapping.now.name.items; image = map fact_of v.image.items }

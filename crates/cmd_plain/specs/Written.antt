@@ -1,4 +1,4 @@
--- What the commands write that run the updates.
+-- What `serial` writes.
 use Rattle.std.specs.Prelude.{◌≡◌, ◌⊎◌, ℕ, List}
 use Rattle.std.specs.Io.KnownBytes.{Consumes}
 use Rattle.cmd_frame.specs.Devices.{Change, Takes}
@@ -12,12 +12,12 @@ use Rattle.run_laws.specs.Kept.{InForceHold}
 use Rattle.lang_report.specs.Results.{result_text, serial_told}
 use Rattle.cmd_plain.specs.Runs.{ending_by, ran}
 
--- what `serial` writes is the result text of what the serial machine tells; in its repository every mapping in force holds
+-- `serial` writes the result text of the serial machine's result, and every mapping in force holds in its repository
 pub record WritesWhatHolds (steps : ℕ) (s : SessionData) : Type 0 where
   pub written : ran steps s ≡ Text (ending_by (serial_told steps s).stop) (result_text s (serial_told steps s))
   pub hold : InForceHold s (serial_told steps s)
 
--- it ends, or stops at a question
+-- `serial` ends, or stops at a question
 abbrev pub EndsOrStops : ℕ → SessionData → Type 0
 EndsOrStops steps s = (status_of (ran steps s) ≡ Ended) ⊎ (status_of (ran steps s) ≡ Stuck)
 
@@ -25,8 +25,8 @@ EndsOrStops steps s = (status_of (ran steps s) ≡ Ended) ⊎ (status_of (ran st
 abbrev pub HasWritten : Status → Type 0
 HasWritten status = (status ≡ Ended) ⊎ (status ≡ Stuck)
 
--- The source gave the text of a session, `out` took the result text of what the serial machine tells of it, and in the repository
--- told every mapping in force holds.
+-- The source gave the text of a session, `out` took the result text of the serial machine's result on it, and every mapping in
+-- force holds in the repository of that result.
 pub record WroteWhatHolds (steps : ℕ) (source out : Change) : Type 0 where
   pub input : List ℕ
   pub session : SessionData

@@ -28,13 +28,13 @@ use run_serial::serial_over;
 use set_facts::{IndexedFacts, PlainFacts};
 use std::alloc::Global;
 
-/// `ask`: the updates taken whole, one after the other; the certain answers to a query over the repository that they
-/// left.
+/// `ask`: runs the updates whole, one after the other, and prints the certain answers to a query over the repository that they
+/// leave.
 #[derive(Drop)]
 pub struct Ask<'a> {
-    /// How many steps an update may take.
+    /// The number of steps that an update may make.
     pub budget: Budget,
-    /// The query, as some text spells it.
+    /// The query, as it was read from a text.
     pub query: &'a RawAsk,
     ghost spelled: { is_ask (written_of query.now) ≡ true },
 }
@@ -51,7 +51,7 @@ fn answers(alloc: Global, query: &BoundAsk, tuples: &TupleList) -> Result<Vec<u8
     answers_text(alloc, &rows)
 }
 
-// What is printed of a run that was asked a query.
+// The output of a run that was asked a query.
 fn answers_output(alloc: Global, query: &BoundAsk, told: &SessionResult) -> Result<Output, Memory>
     requires { IsSafe (query_of query.now) }
     ensures { IfOk result
@@ -61,7 +61,7 @@ fn answers_output(alloc: Global, query: &BoundAsk, told: &SessionResult) -> Resu
     Ok(Output::Text(ending_by(told), text))
 }
 
-// The line that tells these words of a query.
+// The line for `err` with these words on a query.
 fn query_line(alloc: Global, words: &[u8]) -> Result<Vec<u8>, Memory>
     ensures { IfOk result
         (λ line. line.items ≡ codes "youtopia: query: " ++ (words.now ++ 10 ∷ [])) }
@@ -73,7 +73,7 @@ fn query_line(alloc: Global, words: &[u8]) -> Result<Vec<u8>, Memory>
     Ok(line)
 }
 
-// The line that tells that no relation has the name.
+// The line that says that no relation has the name.
 fn unknown_line(alloc: Global, name: &Name) -> Result<Vec<u8>, Memory>
     ensures { IfOk result (λ line. line.items ≡ query_line (UnknownRelation name.now.items)) }
 {
@@ -83,7 +83,7 @@ fn unknown_line(alloc: Global, name: &Name) -> Result<Vec<u8>, Memory>
     query_line(alloc, &words)
 }
 
-// That the relation has other columns, in words.
+// The words that say that the relation has another number of columns.
 fn arity_words(alloc: Global, name: &Name, expected: u16, found: u64) -> Result<Vec<u8>, Memory>
     ensures { IfOk result
         (λ words. words.items ≡ kind_text (Arity name.now.items expected found)) }
@@ -96,7 +96,7 @@ fn arity_words(alloc: Global, name: &Name, expected: u16, found: u64) -> Result<
     Ok(words)
 }
 
-// The line that tells that the relation has other columns.
+// The line that says that the relation has another number of columns.
 fn arity_line(alloc: Global, name: &Name, expected: u16, found: u64) -> Result<Vec<u8>, Memory>
     ensures { IfOk result
         (λ line. line.items ≡ query_line (Arity name.now.items expected found)) }
@@ -105,7 +105,7 @@ fn arity_line(alloc: Global, name: &Name, expected: u16, found: u64) -> Result<V
     query_line(alloc, &words)
 }
 
-// What is made of it where the query goes with its relations.
+// The output for a session whose relations fit the query.
 fn over_bound(
     alloc: Global,
     session: &Session,
@@ -124,7 +124,7 @@ fn over_bound(
     answers_output(alloc, query, &told)
 }
 
-// What is made of a session whose base violates no mapping.
+// The output for a session whose base violates no mapping.
 fn over_base(
     alloc: Global,
     session: &Session,
@@ -159,7 +159,7 @@ fn over_base(
     }
 }
 
-// What `ask` makes of the session.
+// The output of `ask` for the session.
 fn asked(alloc: Global, session: &Session, budget: Budget, query: &RawAsk) -> Result<Output, Memory>
     requires spelled { is_ask (written_of query.now) ≡ true }
     requires valid { IsSession (session_of session.now) }

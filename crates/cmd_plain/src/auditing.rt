@@ -19,10 +19,10 @@ use lang_session::Session;
 use run_serial::{base_of, serial};
 use std::alloc::Global;
 
-/// `audit`: a session, perhaps the result text of its run, and a trace; whether these are what they say.
+/// `audit`: reads a session, perhaps the result text of its run, and a trace, and judges the result text and the trace.
 #[derive(Clone, Copy, Debug)]
 pub struct Audit {
-    /// By which terms the trace is judged.
+    /// The terms by which the trace is judged.
     pub terms: Terms,
 }
 
@@ -39,7 +39,7 @@ impl Command for Audit {
     }
 }
 
-// What stands behind a session is judged.
+// Judges what follows a session in the input.
 #[derive(Drop)]
 struct Judging<'a> {
     terms: Terms,
@@ -58,7 +58,7 @@ impl SessionCommand for Judging<'_> {
     }
 }
 
-// What is made of what stands behind a session whose base violates no mapping.
+// The output for what follows a session whose base violates no mapping.
 fn judged(alloc: Global, session: &Session, terms: Terms, rest: &[u8]) -> Result<Output, Memory>
     requires valid { IsSession (session_of session.now) }
     requires met { base_violation (session_of session.now) ≡ None }
@@ -93,7 +93,7 @@ fn is_own_result(
     Ok(text == own.as_slice())
 }
 
-// What is made of a trace.
+// The output for a trace.
 fn on_trace(alloc: Global, session: &Session, terms: Terms, trace: &[u8]) -> Result<Output, Memory>
     requires valid { IsSession (session_of session.now) }
     requires met { base_violation (session_of session.now) ≡ None }
@@ -106,7 +106,7 @@ fn on_trace(alloc: Global, session: &Session, terms: Terms, trace: &[u8]) -> Res
     line(alloc, ending(verdict), words.as_slice())
 }
 
-// How a command ends that tells this.
+// How the command ends with this verdict.
 fn ending(verdict: Verdict) -> Ending
     ensures ending { result ≡ ending_of (verdict_of verdict) }
 {

@@ -29,7 +29,7 @@ pub struct Violated<'a> {
     pub image: TupleList,
 }
 
-// The first violation of the mapping, where it is in force from the start.
+// The first violation of the mapping, if it is in force from the start.
 fn violated_by<'a, F: Facts>(
     alloc: Global,
     base: &F,
@@ -50,7 +50,7 @@ fn violated_by<'a, F: Facts>(
     }
 }
 
-// That of the first mapping that has one.
+// The first violation of the first mapping that has one.
 fn first_violated<'a, F: Facts>(
     alloc: Global,
     base: &F,
@@ -67,8 +67,8 @@ fn first_violated<'a, F: Facts>(
     Ok(None)
 }
 
-/// The first violation of the session's base, which is given as a set of tuples: that of the first mapping in force from the
-/// start that has one.
+/// Finds the first violation in the session's base, which is given as a set of tuples: the one of the first violated mapping in
+/// force from the start.
 pub fn base_violation<'a>(
     alloc: Global,
     session: &'a Session,
@@ -81,7 +81,7 @@ pub fn base_violation<'a>(
     first_violated(alloc, base, session.mappings.as_slice())
 }
 
-// Adds tuples, each behind a comma and a space.
+// Adds tuples, each after a comma and a space.
 fn push_others(
     alloc: Global,
     line: &mut Vec<u8>,
@@ -99,7 +99,7 @@ fn push_others(
     Ok(())
 }
 
-// Adds tuples with a comma and a space between.
+// Adds tuples, with a comma and a space between them.
 fn push_tuples(
     alloc: Global,
     line: &mut Vec<u8>,
@@ -118,7 +118,7 @@ fn push_tuples(
     }
 }
 
-// The line that tells a violation of the base.
+// The line that says a violation of the base.
 fn base_line(alloc: Global, schema: &Schema, violated: &Violated<'_>) -> Result<Vec<u8>, Memory>
     ensures { IfOk result (λ line. line.items ≡ base_line schema.now (violated_of violated.now)) }
 {
@@ -131,7 +131,7 @@ fn base_line(alloc: Global, schema: &Schema, violated: &Violated<'_>) -> Result<
     Ok(line)
 }
 
-/// The refusal that tells a violation of the base.
+/// The refusal that says a violation of the base.
 pub fn base_refusal(
     alloc: Global,
     schema: &Schema,
@@ -143,8 +143,8 @@ pub fn base_refusal(
     Ok(Output::Refused(Refusal::BaseViolates, base_line(alloc, schema, violated)?))
 }
 
-/// The base of the session as a set of tuples, where it meets the mappings that are in force from the start; else the refusal
-/// that tells its first violation.
+/// The base of the session as a set of tuples, if it meets the mappings that are in force from the start; otherwise the refusal
+/// with its first violation.
 pub(crate) fn met_base(
     alloc: Global,
     session: &Session,

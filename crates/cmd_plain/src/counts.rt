@@ -1,4 +1,4 @@
-//! The numbers of a session's parts, as the command `check` tells them.
+//! The numbers of a session's parts, as the command `check` prints them.
 ghost use Rattle.std.specs.Prelude.{◌≡◌, ◌≤◌, ◌<◌, ◌^◌, map, IfOk, sum_by, length};
 ghost use Rattle.def_language.specs.Sessions.{answer_count};
 ghost use Rattle.lang_session.specs.Meanings.{session_of, update_of};
@@ -8,7 +8,7 @@ use base_types::Memory;
 use lang_session::{Session, SessionUpdate};
 use std::alloc::Global;
 
-// The answers of all updates.
+// The number of answers of all updates.
 fn count_answers(updates: &[SessionUpdate]) -> u64
     requires { answer_count (map update_of updates.now) < 2 ^ 64 }
     ensures { result ≡ answer_count (map update_of updates.now) }
@@ -20,7 +20,7 @@ fn count_answers(updates: &[SessionUpdate]) -> u64
     count
 }
 
-/// The line that tells the numbers of a session's parts.
+/// The line with the numbers of a session's parts.
 pub(crate) fn count_line(alloc: Global, session: &Session) -> Result<Vec<u8>, Memory>
     requires { answer_count (session_of session.now).updates < 2 ^ 64 }
     ensures { IfOk result (λ line. line.items ≡ count_line (session_of session.now)) }

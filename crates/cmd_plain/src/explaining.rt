@@ -24,17 +24,17 @@ use run_serial::{base_of, serial_over};
 use set_facts::IndexedFacts;
 use std::alloc::Global;
 
-/// `explain`: the updates taken whole, one after the other; why a tuple is in the repository that they left, or that it is
-/// absent.
+/// `explain`: runs the updates whole, one after the other, and prints why a tuple is in the repository that they leave, or that
+/// it is absent.
 #[derive(Drop)]
 pub struct Explain<'a> {
-    /// How many steps an update may take.
+    /// The number of steps that an update may make.
     pub budget: Budget,
-    /// The tuple, as a fact spells it.
+    /// The tuple, as the fact that was read.
     pub fact: &'a RawFact,
 }
 
-// What is told of a tuple that is not there.
+// The text for a tuple that is absent.
 fn absent_text(alloc: Global) -> Result<Vec<u8>, Memory>
     ensures { IfOk result (λ text. text.items ≡ absent_text) }
 {
@@ -43,7 +43,7 @@ fn absent_text(alloc: Global) -> Result<Vec<u8>, Memory>
     Ok(text)
 }
 
-// The lines of the reasons, or that there are none.
+// The lines of the reasons, or the text for a tuple that is absent.
 fn reasons_text(
     alloc: Global,
     session: &Session,
@@ -58,7 +58,7 @@ fn reasons_text(
     }
 }
 
-// What is printed of a run with these reasons.
+// The output of a run, with these reasons.
 fn reasons_output(
     alloc: Global,
     session: &Session,
@@ -73,7 +73,7 @@ fn reasons_output(
     Ok(Output::Text(ending_by(told), text))
 }
 
-// What is printed of a run that left no such tuple.
+// The output of a run that left no such tuple.
 fn absent_output(alloc: Global, told: &SessionResult) -> Result<Output, Memory>
     ensures { IfOk result (λ output. view_of output ≡ absent_output (result_of told.now)) }
 {
@@ -81,7 +81,7 @@ fn absent_output(alloc: Global, told: &SessionResult) -> Result<Output, Memory>
     Ok(Output::Text(ending_by(told), text))
 }
 
-// What is printed of the run over the base, with the reasons for the tuple.
+// The output of the run over the base, with the reasons for the tuple.
 fn with_reasons(
     alloc: Global,
     session: &Session,
@@ -100,7 +100,7 @@ fn with_reasons(
     reasons_output(alloc, session, &run.result, &run.explanation)
 }
 
-// What is printed of the run over the base, for a fact that is no tuple of the schema.
+// The output of the run over the base, for a fact that is no tuple of the schema.
 fn without_reasons(
     alloc: Global,
     session: &Session,
@@ -117,7 +117,7 @@ fn without_reasons(
     absent_output(alloc, &told)
 }
 
-// What is made of a session whose base violates no mapping.
+// The output for a session whose base violates no mapping.
 fn over_base(
     alloc: Global,
     session: &Session,
@@ -137,7 +137,7 @@ fn over_base(
     }
 }
 
-// What is made of a session.
+// The output for a session.
 fn output_of(
     alloc: Global,
     session: &Session,

@@ -1,4 +1,4 @@
-//! The command `journal`: what a session begins with and what its updates commit, as a journal.
+//! The command `journal`: a session's beginning and the commits of its updates, as a journal.
 ghost use Rattle.std.specs.Prelude.{◌≡◌, ◌+◌, ◌≤◌, [], length, not, false, true, IfErr, IfOk, IfSome, IfNone, None};
 ghost use Rattle.std.specs.List.{AllByRecursion};
 ghost use Rattle.std.specs.Option.{option_map};
@@ -33,11 +33,11 @@ use run_laws::{openings_are_sessions, trails_are_logged};
 use run_serial::{TrailList, Trailed, trails};
 use std::alloc::Global;
 
-/// `journal`: the updates taken whole, one after the other; what the session begins with, and what each of them commits, as
-/// a journal.
+/// `journal`: runs the updates whole, one after the other, and writes the session's beginning and each update's commit as a
+/// journal.
 #[derive(Clone, Copy, Debug)]
 pub struct Journal {
-    /// How many steps an update may take.
+    /// The number of steps that an update may make.
     pub budget: Budget,
 }
 
@@ -50,7 +50,7 @@ fn initial_mappings(mappings: MappingList) -> MappingList
     List::from_vec(kept)
 }
 
-// What the session begins with.
+// The session's beginning: without its updates and the mappings that they add.
 fn opening_of(alloc: Global, session: Session) -> Session
     ensures { session_of result ≡ opening_of (session_of session) }
 {
@@ -63,7 +63,7 @@ fn opening_of(alloc: Global, session: Session) -> Session
     }
 }
 
-// Appends a commit. None where the journal is too long with it.
+// Appends a commit. The result is None if the journal is then too long.
 fn log_commit(
     alloc: Global,
     disk: &mut MemDisk,
@@ -95,7 +95,7 @@ fn log_commit(
     }
 }
 
-// Appends a commit for each trail; whether the journal is not too long with them.
+// Appends a commit for each trail. The result is whether the journal is still short enough.
 fn log_all(
     alloc: Global,
     disk: &mut MemDisk,
@@ -126,7 +126,7 @@ fn log_all(
     Ok(disk.bytes().len() <= INPUT_LIMIT)
 }
 
-// Makes a journal of the session on an empty disk. None where the session is too large.
+// Makes a journal of the session on an empty disk. The result is None if the session is too large.
 fn begin(alloc: Global, disk: &mut MemDisk, session: &Session) -> Result<Option<Place>, Memory>
     requires empty { disk.old ≡ unused_disk [] [] }
     requires session { IsSession (session_of session.now) }
@@ -144,7 +144,7 @@ fn begin(alloc: Global, disk: &mut MemDisk, session: &Session) -> Result<Option<
     }
 }
 
-// The journal of the session with a commit for each trail; None where it is too long.
+// The journal of the session with a commit for each trail; None if it is too long.
 fn journal_of(
     alloc: Global,
     session: &Session,
@@ -171,7 +171,7 @@ fn journal_of(
     Ok(None)
 }
 
-// How a command ends whose updates stopped there, or did not.
+// How a command ends if its updates stopped there, or did not stop.
 fn ending_by(stop: &Option<Stop>) -> Ending
     ensures { result ≡ ending_by (option_map stop_of stop.now) }
 {
@@ -181,7 +181,7 @@ fn ending_by(stop: &Option<Stop>) -> Ending
     }
 }
 
-// The journal of what a run of the session left; None where it is too long.
+// The journal of what a run of the session left; None if it is too long.
 fn journal_left(alloc: Global, session: Session, left: Trailed) -> Result<Option<Vec<u8>>, Memory>
     requires session { IsSession (session_of session) }
     requires writes { AreLogged session.schema (commits_of (trails_of left.trails)) }
@@ -197,7 +197,7 @@ fn journal_left(alloc: Global, session: Session, left: Trailed) -> Result<Option
     journal_of(alloc, &opening, left.trails)
 }
 
-// What is written of what a run of the session left.
+// The output for what a run of the session left.
 fn journal_output(alloc: Global, session: Session, left: Trailed) -> Result<Output, Memory>
     requires session { IsSession (session_of session) }
     requires writes { AreLogged session.schema (commits_of (trails_of left.trails)) }
@@ -212,7 +212,7 @@ fn journal_output(alloc: Global, session: Session, left: Trailed) -> Result<Outp
     }
 }
 
-// What a run of the session leaves; the refusal of its base, where that violates a mapping.
+// What a run of the session leaves, or the refusal if its base violates a mapping.
 fn left_of(
     alloc: Global,
     session: &Session,

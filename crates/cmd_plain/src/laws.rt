@@ -1,4 +1,4 @@
-//! Laws of what the commands write that run the updates.
+//! Laws on what the commands write that run the updates.
 ghost use Rattle.std.specs.Prelude.{◌≡◌, ◌≤◌, ℕ, List};
 ghost use Rattle.cmd_frame.specs.Devices.{Change};
 ghost use Rattle.cmd_frame.specs.Outputs.{OutputView};
@@ -16,9 +16,9 @@ use def_language::spelled_sessions_are_valid;
 use run_journal::{damaged_bytes_are_no_journal, inputs_are_journals_or_damaged};
 use run_laws::runs_meet_their_mappings;
 
-/// Of a valid session whose base meets its mappings, `serial` writes a repository in which every mapping in force
-/// holds: those in force from the start, and those that an update which is done has put in force. It ends with status 0, or
-/// stops at a question with status 1.
+/// For a valid session whose base meets its mappings, `serial` writes a repository in which every mapping in force holds: those
+/// in force from the start, and those that a done update has put in force. It ends with status 0, or stops at a question with
+/// status 1.
 pub fn runs_write_what_holds()
     ensures written { (steps : ℕ) (s : SessionData) → IsRunnable steps s → WritesWhatHolds steps s }
     ensures status { (steps : ℕ) (s : SessionData) → IsRunnable steps s → EndsOrStops steps s }
@@ -26,8 +26,8 @@ pub fn runs_write_what_holds()
     runs_meet_their_mappings();
 }
 
-/// Where `serial`, performed with a budget, ends or stops, the repository that it has written is one in which every
-/// mapping in force holds.
+/// If `serial`, with a valid budget, ends or stops at a question, every mapping in force holds in the repository that it has
+/// written.
 pub fn performed_runs_write_what_holds()
     ensures { (steps : ℕ) (status : Status) (source out err : Change) → 1 ≤ steps → steps ≤ 1000001 →
         HasWritten status → Row status (on_session (ran steps)) source out err →
@@ -37,14 +37,14 @@ pub fn performed_runs_write_what_holds()
     runs_meet_their_mappings();
 }
 
-/// Each input is a journal or damaged, so that `recover` has an output for it.
+/// Each input begins with a journal or is damaged, so `recover` has an output for it.
 pub fn each_input_is_recovered_or_refused()
     ensures { (input : List ℕ) → (output : OutputView) × recovering input output }
 {
     inputs_are_journals_or_damaged();
 }
 
-/// No input is both a journal and damaged, so that `recover` has one status for it.
+/// No input both begins with a journal and is damaged, so `recover` has one status for it.
 pub fn recovered_inputs_have_one_status()
     ensures { (input : List ℕ) (output other : OutputView) → recovering input output →
         recovering input other → status_of output ≡ status_of other }

@@ -1,9 +1,8 @@
 //! The commands on a session: what each makes of its input.
 //!
-//! `specs/Commands.antt` says it in the terms of the language of sessions: `on_session_by makes` is what a command
-//! makes of the session that the input spells, or the refusal of an input that spells none. `specs/Runs.antt` says it of
-//! those that run the updates, in the terms of the serial machine; `specs/Asked.antt` of the one that asks a
-//! query, `specs/Journaled.antt` of those on journals.
+//! `specs/Commands.antt` defines it by the language of sessions: `on_session_by makes` is what a command makes of the session
+//! that the input spells, or the refusal of an input that spells none. `specs/Runs.antt` defines the commands that run the
+//! updates, by the serial machine; `specs/Asked.antt` defines `ask`, and `specs/Journaled.antt` the commands on journals.
 #![tactic(auto)]
 
 mod asking;

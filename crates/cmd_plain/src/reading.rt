@@ -18,10 +18,10 @@ use std::alloc::Global;
 
 /// What a command makes of a session.
 pub trait SessionCommand {
-    /// What it may make of a session: one output where it is a function, and any of several where threads decide.
+    /// What the command may make of a session: one output if it is a function, any of several if threads decide.
     ghost makes: { Self → SessionData → OutputView → Type 0 };
 
-    /// An output for a valid session. Memory for the whole of it is taken here.
+    /// Makes an output for a valid session. It takes the memory for the whole output.
     fn make(&self, alloc: Global, session: Session) -> Result<Output, Memory>
         requires valid { IsSession (session_of session) }
         ensures output { IfOk result (λ output. makes self.now (session_of session)
@@ -32,7 +32,7 @@ pub trait SessionCommand {
 #[derive(Drop)]
 pub struct OnSession<C: SessionCommand>(pub C);
 
-// The line that tells the first fault of an input.
+// The line with the first fault of an input.
 fn fault_line(alloc: Global, fault: &SessionFault) -> Result<Vec<u8>, Memory>
     ensures { IfOk result (λ line. line.items ≡ fault_line (wrong_of fault.now)) }
 {
@@ -44,7 +44,7 @@ fn fault_line(alloc: Global, fault: &SessionFault) -> Result<Vec<u8>, Memory>
     Ok(line)
 }
 
-/// The refusal of an input that spells no session: a line that tells its first fault.
+/// The refusal of an input that spells no session, with the line of its first fault.
 pub fn fault_refusal(alloc: Global, fault: &SessionFault) -> Result<Output, Memory>
     ensures refused { IfOk result (λ output. view_of output ≡
         Refused SessionRefused (fault_line (wrong_of fault.now))) }

@@ -11,7 +11,7 @@ use lang_schema::{Schema, print_tuple};
 use run_journal::{RecoverFault, Recovered, recover};
 use std::alloc::Global;
 
-/// `recover`: how many commits the journal has with which the input begins, and the repository that they leave.
+/// `recover`: prints the number of commits of the journal with which the input begins, and the repository that they leave.
 #[derive(Clone, Copy, Debug)]
 pub struct Recover;
 
@@ -32,7 +32,7 @@ fn push_lines(
     Ok(())
 }
 
-// The line that tells the number of commits.
+// The line with the number of commits.
 fn commits_line(alloc: Global, commits: u32) -> Result<Vec<u8>, Memory>
     ensures { IfOk result (λ line. line.items ≡ commits_line commits) }
 {
@@ -40,7 +40,7 @@ fn commits_line(alloc: Global, commits: u32) -> Result<Vec<u8>, Memory>
     Ok(line.into_bytes())
 }
 
-// The line that tells the number of tuples.
+// The line with the number of tuples.
 fn repository_line(alloc: Global, tuples: usize) -> Result<Vec<u8>, Memory>
     ensures { IfOk result (λ line. line.items ≡ repository_line tuples) }
 {
@@ -48,7 +48,7 @@ fn repository_line(alloc: Global, tuples: usize) -> Result<Vec<u8>, Memory>
     Ok(line.into_bytes())
 }
 
-// What is told of a journal.
+// The text for a journal.
 fn recovered_text(alloc: Global, recovered: &Recovered) -> Result<Vec<u8>, Memory>
     ensures { IfOk result (λ text. text.items ≡ recovered_text recovered.now.commits
         recovered.now.session.schema (facts_of recovered.now.repository)) }
@@ -60,7 +60,7 @@ fn recovered_text(alloc: Global, recovered: &Recovered) -> Result<Vec<u8>, Memor
     Ok(text)
 }
 
-// The same of a journal that is then let go.
+// The text for a journal, which is then dropped.
 fn whole_text(alloc: Global, recovered: Recovered) -> Result<Vec<u8>, Memory>
     ensures { IfOk result (λ text. text.items ≡ recovered_text recovered.commits
         recovered.session.schema (facts_of recovered.repository)) }
@@ -68,7 +68,7 @@ fn whole_text(alloc: Global, recovered: Recovered) -> Result<Vec<u8>, Memory>
     recovered_text(alloc, &recovered)
 }
 
-// The line that tells where the bytes are damaged.
+// The line that says where the bytes are damaged.
 fn damaged_line(alloc: Global, place: u64) -> Result<Vec<u8>, Memory>
     ensures { IfOk result (λ line. line.items ≡ damaged_line place) }
 {

@@ -1,5 +1,5 @@
-//! The commands that run a session's updates on one thread: `serial`, which prints the result, and `save`, which prints what
-//! is left as a session.
+//! The commands that run a session's updates on one thread: `serial` prints the result, and `save` prints the repository that is
+//! left as a session.
 ghost use Rattle.std.specs.Prelude.{◌≡◌, None, IfErr, IfOk};
 ghost use Rattle.cmd_frame.specs.Outputs.{OutputView, view_of};
 ghost use Rattle.def_language.specs.Validity.{IsSession};
@@ -23,22 +23,22 @@ use run_serial::serial_over;
 use std::alloc::Global;
 use std::mem;
 
-/// `serial`: the updates taken whole, one after the other; how each ended, where they stopped, if they did, and
-/// the repository that they left.
+/// `serial`: runs the updates whole, one after the other, and prints how each ended, where they stopped, if they did, and the
+/// repository that they leave.
 #[derive(Clone, Copy, Debug)]
 pub struct Serial {
-    /// How many steps an update may take.
+    /// The number of steps that an update may make.
     pub budget: Budget,
 }
 
-/// `save`: the updates taken whole, one after the other; the session that begins with what they left.
+/// `save`: runs the updates whole, one after the other, and prints the session that begins with what they leave.
 #[derive(Clone, Copy, Debug)]
 pub struct Save {
-    /// How many steps an update may take.
+    /// The number of steps that an update may make.
     pub budget: Budget,
 }
 
-/// How a command ends whose run told this: it stopped at a question, or did not.
+/// How a command ends if its run has this result: it stopped at a question, or did not.
 pub fn ending_by(told: &SessionResult) -> Ending
     ensures { result ≡ ending_by (result_of told.now).stop }
 {
@@ -48,7 +48,7 @@ pub fn ending_by(told: &SessionResult) -> Ending
     }
 }
 
-// What is printed of a run.
+// The output of `serial` for a run.
 fn result_output(alloc: Global, session: &Session, told: &SessionResult) -> Result<Output, Memory>
     ensures { IfOk result (λ output. view_of output ≡
         result_output (session_of session.now) (result_of told.now)) }
@@ -57,7 +57,7 @@ fn result_output(alloc: Global, session: &Session, told: &SessionResult) -> Resu
     Ok(Output::Text(ending_by(told), text))
 }
 
-/// The line that tells that an output is too large.
+/// The line that says that an output is too large.
 pub(crate) fn too_large_line(alloc: Global) -> Result<Vec<u8>, Memory>
     ensures { IfOk result (λ line. line.items ≡ too_large_line) }
 {
@@ -66,7 +66,7 @@ pub(crate) fn too_large_line(alloc: Global) -> Result<Vec<u8>, Memory>
     Ok(line)
 }
 
-// What is saved of a run.
+// The output of `save` for a run.
 fn saved_output(alloc: Global, session: Session, told: &SessionResult) -> Result<Output, Memory>
     ensures { IfOk result (λ output. view_of output ≡
         saved_output (session_of session) (result_of told.now)) }
@@ -81,7 +81,7 @@ fn saved_output(alloc: Global, session: Session, told: &SessionResult) -> Result
     }
 }
 
-// What a run of the session tells; the refusal of its base, where that violates a mapping.
+// The result of a run of the session, or the refusal if its base violates a mapping.
 fn told_of(
     alloc: Global,
     session: &Session,
@@ -102,7 +102,7 @@ fn told_of(
     }
 }
 
-// What `serial` makes of the session.
+// The output of `serial` for the session.
 fn ran(alloc: Global, session: &Session, budget: Budget) -> Result<Output, Memory>
     requires valid { IsSession (session_of session.now) }
     ensures ran { IfOk result
@@ -111,7 +111,7 @@ fn ran(alloc: Global, session: &Session, budget: Budget) -> Result<Output, Memor
     match told_of(alloc, session, budget)? {
         Ok(told) => {
             let output = result_output(alloc, session, &told);
-            // The process ends with the command, and gives back at once what was told.
+            // The process ends with the command, which frees the result at once.
             mem::forget(told);
             output
         }

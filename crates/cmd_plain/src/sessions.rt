@@ -18,15 +18,15 @@ use std::alloc::Global;
 #[derive(Clone, Copy, Debug)]
 pub struct Format;
 
-/// `upgrade`: the printed form of the same session in format 2.
+/// `upgrade`: the printed form of the session in format 2.
 #[derive(Clone, Copy, Debug)]
 pub struct Upgrade;
 
-/// `check`: the numbers of the session's parts, where its base meets the mappings that are in force from the start.
+/// `check`: the numbers of the session's parts, if its base meets the mappings that are in force from the start.
 #[derive(Clone, Copy, Debug)]
 pub struct Check;
 
-// What `check` makes of the session.
+// The output of `check` for the session.
 fn checked(alloc: Global, session: &Session) -> Result<Output, Memory>
     requires valid { IsSession (session_of session.now) }
     ensures checked { IfOk result (λ output. view_of output ≡ checked (session_of session.now)) }

@@ -1,4 +1,4 @@
--- Requests that ask for the same.
+-- Requests that ask for the same thing.
 use Rattle.std.specs.Prelude.{◌≡◌, ℕ, Bool, List, Option, option_map}
 use Rattle.std.specs.Borrow.{Bor}
 use Rattle.clap.specs.Words.{Text}
@@ -12,7 +12,7 @@ use Rattle.cmd_words.specs.declared.reading.Request.TheVariants.{Command, Help, 
 abbrev pub text_of : Option (Bor Text) → Option Text
 text_of given = option_map (λ text. text.now) given
 
--- the same command, and each option the same
+-- the same command, with the same value of each option
 pub record AreAlike (options other : Options) : Type 0 where
   pub command : options.command ≡ other.command
   pub deps : options.deps ≡ other.deps

@@ -1,4 +1,4 @@
--- The one simple command that clap reads the words by, and what it then holds of them.
+-- The one simple command by which clap reads the words, and what clap then has of them.
 use Rattle.std.specs.Prelude.{◌≡◌, ◌≤◌, ℕ, List, [], ◌∷◌, Some, Bool, true, false, codes, pos}
 use Rattle.std.specs.Option.{option_map_or}
 use Rattle.std.specs.Str.{bytes_eq}
@@ -50,7 +50,7 @@ rules =
     command_rule ∷ workers_rule ∷ deps_rule ∷ steps_rule ∷ retries_rule ∷ text_rule (codes "tuple") ∷ count_rule ∷ seed_rule ∷ trace_rule
     ∷ text_rule (codes "query") ∷ []
 
--- those up to the ones by which workers take updates
+-- the first arguments: the command's name and the options for the workers
 abbrev pub work_rules : List Rule
 work_rules = command_rule ∷ workers_rule ∷ deps_rule ∷ steps_rule ∷ retries_rule ∷ []
 
@@ -58,7 +58,7 @@ work_rules = command_rule ∷ workers_rule ∷ deps_rule ∷ steps_rule ∷ retr
 abbrev pub bare_app : App
 bare_app = record { top = record (new_app (codes "youtopia")).top { no_binary_name = true; has_version = true }; subs = [] }
 
--- the command with these
+-- the command with these first arguments
 abbrev pub work_app : App
 work_app = record bare_app { top = record bare_app.top { rules = work_rules } }
 
@@ -70,7 +70,7 @@ youtopia_app = record bare_app { top = record bare_app.top { rules = rules } }
 abbrev pub faults_of : List Text → Kinds
 faults_of words = fault_of youtopia_app words
 
--- what clap holds of the words
+-- the values that clap has read from the words
 abbrev pub rows_at : List Text → List Row
 rows_at words = matches_of youtopia_app words
 

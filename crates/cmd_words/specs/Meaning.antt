@@ -15,14 +15,14 @@ use Rattle.cmd_words.specs.declared.reading.WordsRefusal.TheVariants.{Usage, Mem
 use Rattle.cmd_words.specs.Arguments.{NumberOf, faults_of, flag_at, rows_at}
 use Rattle.cmd_words.specs.Names.{command_text, deps_text, is_command, is_deps}
 
--- what an error of clap's comes to: help and the version are answers, all else but want of memory is refused
+-- the answer for an error of clap: help and the version are answers; every other error but want of memory is a refusal
 abbrev pub answer_to : ErrorKind → Result Request WordsRefusal
 answer_to DisplayHelp = Ok Help
 answer_to DisplayVersion = Ok Version
 answer_to OutOfMemory = Err Memory
 answer_to _ = Err Usage
 
--- whether an error of clap's refuses the words: a call for help or the version does not
+-- whether an error of clap refuses the words: a call for help or the version does not
 abbrev pub refuses : ErrorKind → Bool
 refuses DisplayHelp = false
 refuses DisplayVersion = false
@@ -36,11 +36,11 @@ names_command rows = option_map_or is_command (first_of (codes "command") rows) 
 abbrev pub names_deps : List Row → Bool
 names_deps rows = option_map_or is_deps (first_of (codes "deps") rows) false
 
--- whether there is what the words name
+-- whether the command and the kind of dependencies that the words name exist
 abbrev pub can_be_done : List Row → Bool
 can_be_done rows = names_command rows && names_deps rows
 
--- whether the words are refused: by clap, or, where clap takes them, since there is no such command or no such dependencies
+-- whether the words are refused: by clap, or, if clap takes them, because no such command or kind of dependencies exists
 abbrev pub is_refused : List Text → Bool
 is_refused words = list_any refuses (faults_of words)
     || (is_empty (faults_of words) && not (can_be_done (rows_at words)))
@@ -59,20 +59,20 @@ pub record Says (words : List Text) (options : Options) : Type 0 where
   pub query : option_map (λ text. text.now) options.query ≡ first_of (codes "query") (rows_at words)
   pub trace : options.trace ≡ flag_at (codes "trace") (rows_at words)
 
--- what the words ask for: the text of help or the version where clap's one fault is that call, else what they say
+-- what the words ask for: help or the version, if clap's one fault is that call; otherwise the command that they say
 abbrev pub Answers : List Text → Request → Type 0
 Answers words (Command options) = Says words options
 Answers words Help = faults_of words ≡ DisplayHelp ∷ []
 Answers words Version = faults_of words ≡ DisplayVersion ∷ []
 
--- the numbers by which updates are generated and run lie in their ranges
+-- the number options, but for the seed, lie in their ranges
 pub record AreInRange (options : Options) : Type 0 where
   pub steps : (1 ≤ options.steps) × (options.steps ≤ 300)
   pub workers : (1 ≤ options.workers) × (options.workers ≤ 16)
   pub retries : options.retries ≤ 4
   pub count : (1 ≤ options.count) × (options.count ≤ 1000)
 
--- they do, where a command is asked for
+-- the numbers lie in their ranges, if a command is asked for
 abbrev pub HasRanges : Request → Type 0
 HasRanges (Command options) = AreInRange options
 HasRanges Help = Unit {0}

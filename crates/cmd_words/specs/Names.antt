@@ -30,11 +30,11 @@ first_commands = Run ∷ Serial ∷ Format ∷ Check ∷ Save ∷ Upgrade ∷ []
 abbrev pub later_commands : List CommandName
 later_commands = Ask ∷ Explain ∷ Audit ∷ Drill ∷ Journal ∷ Recover ∷ []
 
--- the commands that there are
+-- all commands
 abbrev pub commands : List CommandName
 commands = first_commands ++ later_commands
 
--- whether the text is the word of one of these
+-- whether the text is the word of one of these commands
 abbrev pub is_one_of : List CommandName → Text → Bool
 is_one_of these text = list_any (λ command. bytes_eq text (command_text command)) these
 

@@ -1,4 +1,4 @@
-//! The one simple command that `clap` reads the words by.
+//! The one simple command by which `clap` reads the words.
 
 ghost use Rattle.std.specs.Prelude.{◌≡◌, IfOk, false};
 ghost use Rattle.clap.specs.Words.{app_of, rule_of};
@@ -9,7 +9,7 @@ use clap::builder::ValueParser;
 use clap::{Arg, ArgAction, Command};
 use std::alloc::{AllocError, Global};
 
-// A number from low to high, by its name.
+// An option of this name whose value is a number from `low` to `high`, with a default.
 fn number<'a>(alloc: Global, name: &'a str, low: u32, high: u32, fallback: &'a str) -> Arg<'a>
     ensures rule { rule_of result ≡ number_rule name.entry.now low high fallback.entry.now }
     ensures local { result.global ≡ false }
@@ -21,7 +21,7 @@ fn number<'a>(alloc: Global, name: &'a str, low: u32, high: u32, fallback: &'a s
         .default_value(fallback)
 }
 
-// A text, by its name.
+// An option of this name whose value is a text.
 fn text<'a>(alloc: Global, name: &'a str) -> Arg<'a>
     ensures rule { rule_of result ≡ text_rule name.entry.now }
     ensures local { result.global ≡ false }
@@ -58,7 +58,7 @@ fn bare<'a>(alloc: Global) -> Command<'a>
         .no_binary_name(true)
 }
 
-// The command with the arguments up to those by which workers take updates.
+// The command with its first arguments: the command's name and the options for the workers.
 fn work_line<'a>(alloc: Global) -> Result<Command<'a>, AllocError>
     ensures { IfOk result (λ command. app_of command ≡ work_app) }
 {
@@ -70,7 +70,7 @@ fn work_line<'a>(alloc: Global) -> Result<Command<'a>, AllocError>
         .arg(number(alloc, "retries", 0, 4, "3"))
 }
 
-/// The command with its arguments.
+/// The command with all its arguments.
 pub(crate) fn command_line<'a>(alloc: Global) -> Result<Command<'a>, AllocError>
     ensures { IfOk result (λ command. app_of command ≡ youtopia_app) }
 {

@@ -1,12 +1,12 @@
-//! The texts that tell how the program is called.
+//! The texts that say how to call the program.
 
-/// The number of the version.
+/// The version number.
 pub(crate) const VERSION: &str = "0.1.0";
 
-/// The line that `--version` tells.
+/// The line that `--version` prints.
 pub const VERSION_LINE: &str = "youtopia 0.1.0\n";
 
-/// The text that `--help` tells: at most 80 columns wide.
+/// The text that `--help` prints, at most 80 columns wide.
 pub const HELP: &str = "\
 Youtopia keeps a repository of tuples with labelled nulls, and repairs it by
 mappings while several curators update it.

@@ -7,13 +7,12 @@ ghost use Rattle.cmd_words.specs.Arguments.{faults_of};
 ghost use Rattle.cmd_words.specs.Meaning.{Answers, is_refused};
 ghost use Rattle.cmd_words.specs.declared.reading.Request.{Request};
 
-/// In no words does `clap` find more than one fault, so that a call for help or the version is never
-/// a refusal too.
+/// `clap` finds at most one fault in any words, so a call for help or the version is never also a refusal.
 pub fn words_have_one_fault()
     ensures { (words : List Text) → length (faults_of words) ≤ 1 }
 {}
 
-/// Words ask for something exactly where they are not refused.
+/// Words ask for something if and only if they are not refused.
 pub fn words_are_answered_or_refused()
     ensures never_both { (words : List Text) (request : Request) → Answers words request →
         is_refused words ≡ false }

@@ -1,4 +1,4 @@
-//! The words of the command line: which are refused, and what the others ask for.
+//! The words of the command line: which of them are refused, and what the others ask for.
 #![tactic(auto)]
 
 mod arguments;

@@ -3,8 +3,8 @@
 ghost use Rattle.std.specs.Prelude.{◌≡◌, None, Some, false};
 ghost use Rattle.cmd_words.specs.Names.{command_text, deps_text, first_commands, is_command, is_deps, is_one_of, later_commands};
 
-/// The commands that there are. Each stands in the table `command_text` and in one of the lists
-/// of specs/, and in `first_named` or `later_named`.
+/// The commands. Each stands in the table `command_text` and in one of the two lists of `specs/Names.antt`, and in `first_named`
+/// or `later_named`.
 #[derive(Clone, Copy, Debug, PartialEq, Eq)]
 pub enum CommandName {
     /// Runs a session's updates.
@@ -15,34 +15,35 @@ pub enum CommandName {
     Format,
     /// Checks a session and its base.
     Check,
-    /// Runs a session's updates one after the other, and prints what they left as a session.
+    /// Runs a session's updates one after the other, and prints the repository that they leave as a session.
     Save,
     /// Prints a session in the newest format.
     Upgrade,
-    /// Runs a session's updates one after the other, and prints the certain answers to a query over what they left.
+    /// Runs a session's updates one after the other, and prints the certain answers to a query over the repository that they
+    /// leave.
     Ask,
-    /// Runs a session's updates one after the other, and prints why a tuple is in what they left.
+    /// Runs a session's updates one after the other, and prints why a tuple is in the repository that they leave.
     Explain,
-    /// Tells whether a trace is that of a legal history of a session.
+    /// Checks whether a trace is a legal history of a session.
     Audit,
-    /// Runs the updates of a session that is generated from a seed, and prints what that comes to.
+    /// Runs the updates of a session that is generated from a seed, and prints a summary.
     Drill,
-    /// Runs a session's updates one after the other, and writes what they commit as a journal.
+    /// Runs a session's updates one after the other, and writes their commits as a journal.
     Journal,
-    /// Tells what a journal stands for.
+    /// Prints the commits and the repository of a journal.
     Recover,
 }
 
-/// Which of the values that a read depends on count.
+/// Which writes a read is taken to depend on.
 #[derive(Clone, Copy, Debug, PartialEq, Eq)]
 pub enum Deps {
     /// All writes to the relations that it reads.
     Coarse,
-    /// The writes that change its answer.
+    /// The writes that change its value.
     Precise,
 }
 
-// The command of a name, among those that run, read or keep a session.
+// The command with this name, among those that run, read or keep a session.
 fn first_named(text: &str) -> Option<CommandName>
     ensures some { (command : CommandName) → result ≡ Some command →
         text.now ≡ command_text command }
@@ -69,7 +70,7 @@ fn first_named(text: &str) -> Option<CommandName>
     None
 }
 
-// The command of a name, among the others.
+// The command with this name, among the others.
 fn later_named(text: &str) -> Option<CommandName>
     ensures some { (command : CommandName) → result ≡ Some command →
         text.now ≡ command_text command }
@@ -96,7 +97,7 @@ fn later_named(text: &str) -> Option<CommandName>
     None
 }
 
-/// The command of a name.
+/// The command with this name.
 pub(crate) fn command_named(text: &str) -> Option<CommandName>
     ensures some { (command : CommandName) → result ≡ Some command →
         text.now ≡ command_text command }
@@ -108,7 +109,7 @@ pub(crate) fn command_named(text: &str) -> Option<CommandName>
     }
 }
 
-/// The kind of dependencies of a name.
+/// The kind of dependencies with this name.
 pub(crate) fn deps_named(text: &str) -> Option<Deps>
     ensures some { (deps : Deps) → result ≡ Some deps → text.now ≡ deps_text deps }
     ensures none { result ≡ None → is_deps text.now ≡ false }

@@ -16,17 +16,17 @@ use std::alloc::{AllocError, Global};
 /// A command and its options. Each option that is not given has its default.
 #[derive(Drop)]
 pub struct Options<'a> {
-    /// What is to be done.
+    /// The command.
     pub command: CommandName,
-    /// How many workers there are, from 1 to 16.
+    /// The number of workers, from 1 to 16.
     pub workers: u32,
     /// Which dependencies count.
     pub deps: Deps,
-    /// How many steps an update may take, from 1 to 300.
+    /// The number of steps that an update may make, from 1 to 300.
     pub steps: u32,
-    /// How often an update is tried again, from 0 to 4.
+    /// How many times an update is tried again, from 0 to 4.
     pub retries: u32,
-    /// How many updates are generated, from 1 to 1000.
+    /// The number of updates that are generated, from 1 to 1000.
     pub count: u32,
     /// The seed of the generator.
     pub seed: u32,
@@ -43,7 +43,7 @@ pub struct Options<'a> {
 pub enum Request<'a> {
     /// A command.
     Command(Options<'a>),
-    /// The text of help.
+    /// The help text.
     Help,
     /// The version.
     Version,
@@ -52,7 +52,7 @@ pub enum Request<'a> {
 /// Why words ask for nothing.
 #[derive(Clone, Copy, Debug, PartialEq, Eq)]
 pub enum WordsRefusal {
-    /// The words are not as the usage says.
+    /// The words do not fit the usage.
     Usage,
     /// There was not enough memory.
     Memory,
@@ -66,7 +66,7 @@ impl From<AllocError> for WordsRefusal {
     }
 }
 
-// What an error of clap's comes to.
+// The answer for an error of `clap`.
 fn answer_to<'a>(error: &clap::Error) -> Result<Request<'a>, WordsRefusal>
     ensures { result ≡ answer_to (kind_of error.now) }
 {
@@ -91,11 +91,10 @@ fn is_given(matches: &ArgMatches<'_>, id: &str) -> bool
 
 /// What the words after the program's name ask for.
 ///
-/// They are read by one command of `clap`'s: a positional, the number options `workers`, `steps`,
-/// `retries`, `count` and `seed` with their ranges and defaults, the texts `deps`, `tuple` and
-/// `query`, and the flag `trace`. The answer is `Err(Usage)` exactly where the words are refused: by
-/// `clap`, or since there is no such command or no such dependencies. Want of memory may come in place
-/// of any answer.
+/// One command of `clap` reads them: a positional, the number options `workers`, `steps`, `retries`, `count` and `seed` with
+/// their ranges and defaults, the texts `deps`, `tuple` and `query`, and the flag `trace`. The answer is `Err(Usage)` if the
+/// words are refused: by `clap`, or because no such command or kind of dependencies exists. `Err(Memory)` may come in place of
+/// any answer.
 pub fn read_words<'a>(alloc: Global, words: &'a [String]) -> Result<Request<'a>, WordsRefusal>
     ensures answer { IfOk result (Answers (map string_bytes words.entry.now)) }
     ensures ranges { IfOk result HasRanges }

@@ -1,4 +1,4 @@
--- What the calls of a desk tell their seat.
+-- What a seat knows after a call of a desk.
 use Rattle.std.specs.Prelude.{ℕ, List, Option, Result}
 use Rattle.work_lock.specs.Seats.{number_of, seen_of}
 use Rattle.def_history.specs.Cores.{Ground}
@@ -18,7 +18,7 @@ module _ {C S P : Type 0} (over : C → Ground) where
   abbrev pub IsOutAt : (S → Ground → List PlainEntry → ℕ → Type 0) → Desk C S P → DeskSeat → Ticket S → Type 0
   IsOutAt holds d s t = IsOutFor holds (over (core_of d)) (seen_of s) (number_of s) t
 
-  -- What `next` adds and answers, from the one to the other that the seat has seen.
+  -- What `next` adds and answers: the seat is s before the call, and s' after it.
   abbrev pub AnswersNext : {E : Type 0} → Desk C S P → DeskSeat → DeskSeat → Result (Next (Ticket S)) E → Type 0
   AnswersNext d s s' r = AfterOthers (number_of s) (seen_of s) (HasNext (number_of s) (over (core_of d)) r (seen_of s'))
 
@@ -26,7 +26,8 @@ module _ {C S P : Type 0} (over : C → Ground) where
   abbrev pub Stretches : {E : Type 0} → Desk C S P → DeskSeat → DeskSeat → Result Stretch E → Type 0
   Stretches d s s' r = AfterOthers (number_of s) (seen_of s) (HasStretched (number_of s) (over (core_of d)) r (seen_of s'))
 
-  -- What `finish` does. The question tells the first entry past so many by which the plan is stale, and this holds where the plan is the step.
+  -- What `finish` does: `question` gives the first entry after the stamp by which the plan is stale, and `planned` holds wherever
+  -- the plan is the step.
   abbrev pub Finishes : {E : Type 0} → (Ground → List PlainEntry → ℕ → Option ℕ) → (Ground → List PlainEntry → ℕ → Type 0)
       → Desk C S P → DeskSeat → DeskSeat → Ticket S → Result Finished E → Type 0
   Finishes question planned d s s' t r =

@@ -1,4 +1,4 @@
--- What a desk asks of the core behind its lock.
+-- What a desk asks of the core inside its lock.
 use Rattle.std.specs.Prelude.{◌≡◌, ℕ, suc, ◌≤◌, not, ◌&&◌, List, take, drop, length, Option, Some}
 use Rattle.def_machine.specs.Updates.{Update, committed}
 use Rattle.def_machine.specs.Standings.{standing, is_ready, lowest_that, lowest_deliverable}
@@ -15,48 +15,49 @@ lowest_idle g H busy =
     lowest_that (λ i u. is_ready (standing (machine g) g.settings (committed (machine g) (updates_after g H)) i u) && not (has_number busy i)) 1
     (updates_after g H)
 
--- After them the lowest update that an answer can be delivered to.
+-- After these entries the lowest update that an answer can be delivered to.
 abbrev pub lowest_waiting : Ground → List PlainEntry → Option ℕ
 lowest_waiting g H = lowest_deliverable (machine g) g.settings (updates_after g H)
 
--- After them the update is ready.
+-- After these entries the update is ready.
 pub record IsReady (g : Ground) (H : List PlainEntry) (u : ℕ) : Type 0 where
   pub place : ℕ
   pub number : u ≡ suc place
   pub update : Update (machine g)
   pub ready : IsReadyAt (machine g) g.settings (updates_after g H) place update
 
--- A delivery to the update makes K of the entries H.
+-- A delivery to the update turns the entries H into K.
 abbrev pub IsDelivery : Ground → List PlainEntry → ℕ → List PlainEntry → Type 0
 IsDelivery g H u K = grown g H (Delivers u) ≡ Some K
 
--- A step of the update makes K of the entries H.
+-- A step of the update turns the entries H into K.
 abbrev pub IsStep : Ground → List PlainEntry → ℕ → List PlainEntry → Type 0
 IsStep g H u K = grown g H (Steps u) ≡ Some K
 
--- Something holds of the update after the first n entries, and none of the later ones is a step or a withdrawal of it.
+-- The fact `holds` is true of the update after the first n entries, and no later entry is a step or a withdrawal of it.
 pub record HoldsSince (holds : Ground → List PlainEntry → ℕ → Type 0) (g : Ground) (H : List PlainEntry) (n u : ℕ) : Type 0 where
   pub stamped : n ≤ length H
   pub then : holds g (take n H) u
   pub spared : AllSpare {M = machine g} u (drop n (entries_over g H))
 
--- What holds since then holds of the update now.
+-- For every update, what was true after the first n entries and is not followed by its step or withdrawal is still true.
 abbrev pub StaysSince : (Ground → List PlainEntry → ℕ → Type 0) → Ground → List PlainEntry → ℕ → Type 0
 StaysSince holds g H n = (u : ℕ) → HoldsSince holds g H n u → holds g H u
 
--- The plan is the step of every update, at every state, for which the snapshot stands.
+-- At every state, the plan is the step of every update that the snapshot stands for.
 abbrev pub IsPlanOf : {S P : Type 0} → (S → Ground → List PlainEntry → ℕ → Type 0) → (P → Ground → List PlainEntry → ℕ → Type 0) → S → P → Type 0
 IsPlanOf snapshot_holds plan_holds s p = (g : Ground) (H : List PlainEntry) (u : ℕ) → snapshot_holds s g H u → plan_holds p g H u
 
 module _ {C : Type 0} (over : C → Ground) (history : C → List PlainEntry) where
-  -- From one core to the other a delivery was made to the update.
+  -- The core `new` is `old` after a delivery to the update.
   abbrev pub HasDelivered : C → C → ℕ → Type 0
   HasDelivered old new u = IsDelivery (over old) (history old) u (history new)
 
-  -- From one core to the other the step of the update was made for which this holds.
+  -- The core `new` is `old` after the step of any update for which `holds` is true.
   abbrev pub HasStep : C → C → (Ground → List PlainEntry → ℕ → Type 0) → Type 0
   HasStep old new holds = (u : ℕ) → holds (over old) (history old) u → IsStep (over old) (history old) u (history new)
 
-  -- Where the core has so many entries more, what held of an update then holds of it still.
+  -- What was true of an update after the first n entries of the core's history is still true, if no later entry is its step or
+  -- withdrawal.
   abbrev pub HasStayed : C → (Ground → List PlainEntry → ℕ → Type 0) → ℕ → Type 0
   HasStayed c holds n = StaysSince holds (over c) (history c) n

@@ -16,7 +16,7 @@ use Rattle.work_desk.specs.Shared.{Items, Shared, record_over, opening_items}
 abbrev pub DeskSeat : Type 0
 DeskSeat = Seat Shared (Item Ground PlainEntry)
 
--- What the core of a desk with these items is over, as the first of them says.
+-- What the core of a desk is over, if this is the first item of the desk.
 abbrev pub over_in : Item Ground PlainEntry → Option Ground
 over_in (Opened g n) = Some g
 over_in (Entered e) = None
@@ -27,7 +27,7 @@ abbrev pub first_over : Items → Option Ground
 first_over [] = None
 first_over (i ∷ is) = over_in i.entry
 
--- By what the seat has seen nothing is left to do.
+-- In what the seat has seen, nothing is left to do.
 abbrev pub IsResting : DeskSeat → Type 0
 IsResting s = (g : Ground) × (first_over (seen_of s) ≡ Some g) × SeesRest (machine g) (record_over g (seen_of s))
 
@@ -36,7 +36,7 @@ abbrev pub opening_by : {C : Type 0} → (C → Ground) → (C → List PlainEnt
 opening_by over history core = opening_items (over core) (history core)
 
 module _ {C S P : Type 0} where
-  -- which lock the desk's seats are of
+  -- the lock that the desk's seats are of
   abbrev pub desk_lock : Desk C S P → TableId
   desk_lock d = lock_id d.lock
 
@@ -44,7 +44,7 @@ module _ {C S P : Type 0} where
   abbrev pub core_of : Desk C S P → C
   core_of d = d.opened.value
 
-  -- The seat is one of the desk's: a seat of its lock that holds no turn, and that has seen the opening.
+  -- The seat is one of the desk's: it is a seat of its lock, holds no turn, and has seen the opening.
   pub record IsSeatOf (over : C → Ground) (history : C → List PlainEntry) (d : Desk C S P) (s : DeskSeat) : Type 0 where
     pub lock : lock_of s ≡ desk_lock d
     pub rest : IsAtRest s

@@ -1,4 +1,4 @@
--- What the seats of a desk share behind its lock, and the record that it stands for.
+-- What the seats of a desk share inside its lock, and the record that it stands for.
 use Rattle.std.specs.Prelude.{◌≡◌, ℕ, ◌<◌, ◌≤◌, ◌^◌, List, ◌∷◌, map, length, Some, None}
 use Rattle.def_record.specs.declared.made.Made.{Made}
 use Rattle.def_record.specs.declared.item.Item.{Item}
@@ -12,7 +12,7 @@ use Rattle.def_record.specs.Records.{Now, IsOpen, now_of, IsRecord}
 use Rattle.def_history.specs.Cores.{Ground, machine, session_over, entries_over, updates_after}
 use Rattle.def_history.specs.PlainEntries.{PlainEntry, entry_kept}
 
--- The items of a desk, with entries as plain data, each with the seat that made it. The first says what the core is over.
+-- The items of a desk, with entries as plain data, each with the seat that made it. The first item says what the core is over.
 abbrev pub Items : Type 0
 Items = List (Made (Item Ground PlainEntry))
 
@@ -30,7 +30,8 @@ pub record StandsAt (g : Ground) (xs : Items) (n : Now (machine g)) : Type 0 whe
   pub left : now_of (record_over g xs) ≡ Some n
   pub open_now : IsOpen n
 
--- What lies behind the lock: what the core is over and its history, how many entries that had at the opening, the marks since, the updates in flight, and how many tickets were given.
+-- The value inside the lock: what the core is over, its history, how many entries that had at the opening, the marks since, the
+-- updates in flight, and how many tickets were given.
 pub record Shared : Type 0 where
   pub over : Ground
   pub history : List PlainEntry
@@ -39,15 +40,15 @@ pub record Shared : Type 0 where
   pub busy : List ℕ
   pub given : ℕ
 
--- All its marks.
+-- All marks, with the one of the opening.
 abbrev pub marks_of : Shared → List (Made Mark)
 marks_of b = made (Opening b.opened) None ∷ b.marks
 
--- The items that it stands for.
+-- The items that the shared value stands for.
 abbrev pub items_of : Shared → Items
 items_of b = record_of b.over (marks_of b) b.history
 
--- Where a desk stands that shares it, with these tickets out.
+-- The present state of a desk that shares b, with the tickets `out`.
 abbrev pub now_at : (b : Shared) → List Ticket → Now (machine b.over)
 now_at b out =
     record {
@@ -64,7 +65,8 @@ now_at b out =
 abbrev pub updates_of : List Ticket → List ℕ
 updates_of out = map (λ t. t.update) out
 
--- It is that of a desk: its items are a record, which leaves it and tickets out for the updates in flight.
+-- The value is the one that a desk shares: its items are a record of this state, in which the tickets that are out are for the
+-- updates in flight.
 pub record IsShared (b : Shared) : Type 0 where
   pub budget : 1 ≤ b.over.budget
   pub out : List Ticket

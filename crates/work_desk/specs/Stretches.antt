@@ -15,43 +15,43 @@ use Rattle.work_desk.specs.Turns.{Adds}
 abbrev pub whole_step : {M : Machine} → Now M → ℕ → ℕ → Record M
 whole_step n j u = next_items n j ++ step_items (after_items n (next_items n j)) (next_ticket n (suc n.given) u j)
 
--- A whole step, from these items to those. The update is the lowest ready one that is not in flight.
+-- A whole step of the seat j turns the items xs into ys. Its update is the lowest ready one that is not in flight.
 pub record HasMadeStep (j : ℕ) (g : Ground) (ys xs : Items) : Type 0 where
   pub now : Now (machine g)
   pub update : ℕ
   pub lowest : next_answer now ≡ Gives update
   pub adds : Adds j g xs ys now (whole_step now j update)
 
--- The seat j delivers an answer to the lowest update that waits for one, from these items to those.
+-- The seat j delivers an answer to the lowest update that waits for one, which turns the items xs into ys.
 pub record HasMadeDelivery (j : ℕ) (g : Ground) (ys xs : Items) : Type 0 where
   pub now : Now (machine g)
   pub update : ℕ
   pub lowest : lowest_deliverable (machine g) now.settings now.updates ≡ Some update
   pub adds : Adds j g xs ys now (delivery_items now j update)
 
--- A move of the seat j: such a step, or such a delivery.
+-- A move of the seat j: a whole step, or a delivery.
 pub data HasMoved (j : ℕ) (g : Ground) (ys xs : Items) : Type 0 where
   Stepping : HasMadeStep j g ys xs → HasMoved j g ys xs
   Delivering : HasMadeDelivery j g ys xs → HasMoved j g ys xs
 
--- So many moves in a row.
+-- A given number of moves of the seat j in a row, from the items xs to ys.
 abbrev pub HasMadeMoves : ℕ → ℕ → Ground → Items → Items → Type 0
 HasMadeMoves zero j g ys xs = ys ≡ xs
 HasMadeMoves (suc k) j g ys xs = (zs : Items) × HasMadeMoves k j g zs xs × HasMoved j g ys zs
 
--- A stretch of the seat j: moves in a row, as many as it tells. For want of memory those that were made stay.
+-- A stretch of the seat j: moves in a row, as many as the result says. After an error the moves that were made stay.
 pub record HasStretched {E : Type 0} (j : ℕ) (g : Ground) (r : Result Stretch E) (ys xs : Items) : Type 0 where
   pub count : ℕ
   pub moves : HasMadeMoves count j g ys xs
   pub told : IfOk r (λ s. s.made ≡ count)
 
--- One move, where there was one to make.
+-- One move, if there was one to make.
 abbrev pub MakesMove : {E : Type 0} → ℕ → Ground → Result (Option Bool) E → Items → Items → Type 0
 MakesMove j g (Ok (Some small)) ys xs = HasMoved j g ys xs
 MakesMove j g (Ok None) ys xs = ys ≡ xs
 MakesMove j g (Err e) ys xs = ys ≡ xs
 
--- ---- the same over what the seats share
+-- ---- these facts for what the seats share
 
 abbrev pub MadeStepOn : ℕ → Shared → Shared → Type 0
 MadeStepOn j b b' = HasMadeStep j b.over (items_of b') (items_of b)

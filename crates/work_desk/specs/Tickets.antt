@@ -19,22 +19,23 @@ use Rattle.work_desk.specs.Shared.{Items, Shared, StandsAt, items_of}
 use Rattle.work_desk.specs.Turns.{Adds}
 use Rattle.work_desk.specs.Cores.{IsPlanOf}
 
--- Stale exactly where an entry past the stamp makes it so, with the first such; else the step is the last entry.
+-- The answer is `Stale`, with the first entry that makes the plan stale, if there is one; otherwise the step is the last entry.
 abbrev pub IsFinish : Option ℕ → Items → Finished → Type 0
 IsFinish question ys (Stepped e) = (question ≡ None) × (e ≡ length (entries_in ys))
 IsFinish question ys (Stale e) = question ≡ Some e
 
--- A fact, if the step was made.
+-- The fact P, if the step was made.
 abbrev pub IfStepped : Type 0 → Finished → Type 0
 IfStepped P (Stepped e) = P
 IfStepped P (Stale e) = Unit {0}
 
 module _ {S : Type 0} where
-  -- The ticket as the record has it, where it was given to the seat j and no step was made by it.
+  -- The ticket as in the record, given to the seat j and not yet used for a step.
   abbrev pub ticket_for : ℕ → Ticket S → record_tickets.Ticket
   ticket_for j t = record { number = t.number; update = t.update; maker = j; stamp = t.stamp; used = false }
 
-  -- By these items the ticket is out for the seat j, and its snapshot stands for its update at the state that the entries up to its stamp leave.
+  -- After the items xs the ticket is out for the seat j. Its snapshot stands for its update at the state that the entries up to
+  -- its stamp leave.
   pub record IsOutFor (holds : S → Ground → List PlainEntry → ℕ → Type 0) (g : Ground) (xs : Items) (j : ℕ) (t : Ticket S) : Type 0 where
     pub now : Now (machine g)
     pub stands : StandsAt g xs now
@@ -42,20 +43,20 @@ module _ {S : Type 0} where
     pub stamped : t.stamp ≤ length (entries_in xs)
     pub snapshot : holds t.snapshot g (take t.stamp (entries_in xs)) t.update
 
-  -- The plan is the step that the ticket's snapshot tells.
+  -- The plan is the step that the ticket's snapshot determines.
   abbrev pub IsPlanFor : {P : Type 0} → (S → Ground → List PlainEntry → ℕ → Type 0) → (P → Ground → List PlainEntry → ℕ → Type 0) → Ticket S → P → Type 0
   IsPlanFor snapshot_holds plan_holds t p = IsPlanOf snapshot_holds plan_holds t.snapshot p
 
   -- ---- next
 
-  -- The answer is the one that the record's laws have at n. A ticket has the next number, and the length of the history as its stamp.
+  -- The answer is `next_answer` at n. A ticket has the next number, and the length of the history as its stamp.
   abbrev pub IsAnswer : {M : Machine} → Now M → Next (Ticket S) → Type 0
   IsAnswer n (next.Ticket t) = (answers.next_answer n ≡ answers.Gives t.update) × (t.number ≡ suc n.given) × (t.stamp ≡ length n.history)
   IsAnswer n (next.Delivered u) = answers.next_answer n ≡ answers.Moves u
   IsAnswer n (next.Idle u) = answers.next_answer n ≡ answers.Waits u
   IsAnswer n next.Quiet = answers.next_answer n ≡ answers.Quiet
 
-  -- A fact of the ticket, if one is given.
+  -- The fact P of the ticket, if one is given.
   abbrev pub IfGiven : (Ticket S → Type 0) → Next (Ticket S) → Type 0
   IfGiven P (next.Ticket t) = P t
   IfGiven P (next.Delivered u) = Unit {0}
@@ -67,7 +68,7 @@ module _ {S : Type 0} where
   next_added j n (Ok a) = next_items n j
   next_added j n (Err e) = []
 
-  -- `next` of the seat j, from these items to those.
+  -- `next` of the seat j turns the items xs into ys.
   pub record HasNext {E : Type 0} (j : ℕ) (g : Ground) (r : Result (Next (Ticket S)) E) (ys xs : Items) : Type 0 where
     pub now : Now (machine g)
     pub adds : Adds j g xs ys now (next_added j now r)
@@ -81,8 +82,8 @@ module _ {S : Type 0} where
   finish_added j t n (Ok (Stale e)) = back_items (ticket_for j t)
   finish_added j t n (Err e) = []
 
-  -- `finish` of the seat j with the ticket, from these items to those. The question tells the first entry by which the plan is stale, and
-  -- this holds of the updates and states of which the plan is the step.
+  -- `finish` of the seat j with the ticket turns the items xs into ys: `question` gives the first entry by which the plan is
+  -- stale, and `planned` holds of the updates and states whose step the plan is.
   pub record HasFinished {E : Type 0} (question : List PlainEntry → Option ℕ) (planned : Ground → List PlainEntry → ℕ → Type 0) (j : ℕ) (g : Ground) (t : Ticket S) (r : Result Finished E) (ys xs : Items) : Type 0 where
     pub now : Now (machine g)
     pub adds : Adds j g xs ys now (finish_added j t now r)
@@ -95,7 +96,7 @@ module _ {S : Type 0} where
   step_added j t n (Ok e) = step_items n (ticket_for j t)
   step_added j t n (Err e) = []
 
-  -- A step by the seat j with the ticket, whose number this is.
+  -- A step by the seat j with the ticket; the result is the number of its entry.
   pub record HasStepped {E : Type 0} (j : ℕ) (g : Ground) (t : Ticket S) (r : Result ℕ E) (ys xs : Items) : Type 0 where
     pub now : Now (machine g)
     pub adds : Adds j g xs ys now (step_added j t now r)
@@ -106,7 +107,7 @@ module _ {S : Type 0} where
     pub now : Now (machine g)
     pub adds : Adds j g xs ys now (back_items (ticket_for j t))
 
-  -- ---- the same over what the seats share
+  -- ---- these facts for what the seats share
 
   -- The ticket is out for the seat j.
   abbrev pub IsOutOn : (S → Ground → List PlainEntry → ℕ → Type 0) → Shared → ℕ → Ticket S → Type 0
@@ -116,7 +117,7 @@ module _ {S : Type 0} where
   abbrev pub NextOn : {E : Type 0} → ℕ → Shared → Shared → Result (Next (Ticket S)) E → Type 0
   NextOn j b b' r = HasNext j b.over r (items_of b') (items_of b)
 
-  -- `next` of whatever seat, where it adds nothing.
+  -- `next` of any seat, if it adds nothing.
   abbrev pub WaitsOn : Shared → Next (Ticket S) → Type 0
   WaitsOn b a = (j : ℕ) → NextOn {E = Memory} j b b (Ok a)
 

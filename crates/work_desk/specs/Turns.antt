@@ -8,7 +8,7 @@ use Rattle.def_record.specs.Records.{Now}
 use Rattle.def_history.specs.Cores.{Ground, machine}
 use Rattle.work_desk.specs.Shared.{Items, StandsAt, record_over}
 
--- The seat j adds items to xs, after which the desk stood at n: as those of the record over the machine they are these.
+-- The desk stands at n after the items xs. The seat j adds items to them, which mean `added` in the record over the machine.
 pub record Adds (j : ℕ) (g : Ground) (xs ys : Items) (n : Now (machine g)) (added : Record (machine g)) : Type 0 where
   pub stands : StandsAt g xs n
   pub items : Items
@@ -16,19 +16,19 @@ pub record Adds (j : ℕ) (g : Ground) (xs ys : Items) (n : Now (machine g)) (ad
   pub meant : record_over g items ≡ added
   pub made : MadeBy j items
 
--- First come items of others than the seat j, and then what does this.
+-- First come items of seats other than j, and then `does` holds.
 pub record AfterOthers (j : ℕ) (xs : Items) (does : Items → Type 0) : Type 0 where
   pub others : Items
   pub unmade : Unmade j others
   pub then : does (xs ++ others)
 
--- The lesser number, and the least of these.
+-- The least of a number, if there is one, and the numbers of a list.
 abbrev pub least : Option ℕ → List ℕ → Option ℕ
 least low [] = low
 least None (u ∷ us) = least (Some u) us
 least (Some n) (u ∷ us) = least (Some (min n u)) us
 
--- An item as a number of tickets given, and of tickets returned.
+-- How many tickets an item gives; then, how many it returns.
 abbrev pub gifts : {O E : Type 0} → Item O E → ℕ
 gifts (Opened o n) = 0
 gifts (Entered e) = 0

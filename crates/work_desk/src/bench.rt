@@ -102,7 +102,7 @@ impl<C: Core> Desk<C> {
     ghost use Rattle.work_desk.specs.Calls.{IsOutAt};
     ghost use Rattle.work_desk.specs.Offers.{HoldsMore};
 
-    // What there is for a lone seat. It makes its steps itself, since nobody waits for the lock meanwhile.
+    // The work for a lone seat. It makes its steps inside the lock itself, since nobody else waits for the lock.
     fn offer_alone<R: Wait + Clock>(
         &self,
         rt: &R,
@@ -135,7 +135,7 @@ impl<C: Core> Desk<C> {
         self.stretch(rt, seat, most)
     }
 
-    // The first that there is, as `next` gives it.
+    // The first work that there is, as `next` gives it.
     fn ask<R: Wait>(
         &self,
         rt: &R,
@@ -157,7 +157,7 @@ impl<C: Core> Desk<C> {
     }
 }
 
-// Whether the plan came in time.
+// Whether the plan came in time or was stale.
 fn received(finished: Finished) -> Received {
     match finished {
         Finished::Stepped { entry: _ } => Received::InTime,

@@ -1,4 +1,4 @@
-//! What lies behind a desk's lock.
+//! The value inside a desk's lock.
 ghost use Rattle.std.specs.Prelude.{◌≡◌, ℕ, Some, None, IfOk, IfErr};
 ghost use Rattle.work_desk.specs.Turns.{least};
 ghost use Rattle.work_desk.specs.Flights.{left_of};
@@ -12,7 +12,7 @@ use std::alloc::Global;
 use std::marker::Model;
 use work_lock::Grows;
 
-/// What a core's history is over. Contracts speak of it; no code makes one.
+/// What a core's history is over. It exists in contracts alone.
 pub struct Over<C: Core> {
     core: C,
 }
@@ -25,7 +25,7 @@ impl<C: Core> Model for Over<C> {
     ghost view = { λ o. C.over o.core };
 }
 
-/// An entry of a core's history as plain data. Contracts speak of such entries; no code makes one.
+/// An entry of a core's history as plain data. It exists in contracts alone.
 pub struct Told {
     entry: Entry,
 }
@@ -107,7 +107,7 @@ impl<C: Core> Board<C> {
         }
     }
 
-    /// The core.
+    /// Ends the board and gives its core.
     pub(crate) fn into_core(self) -> C
         ensures over { C.over result ≡ self.over }
         ensures history { C.history result ≡ self.history }
@@ -123,14 +123,14 @@ impl<C: Core> Board<C> {
         core
     }
 
-    /// Does nothing. It tells that a board is always that of a desk.
+    /// Does nothing. Its contract says that a board is always the board of a desk.
     pub(crate) fn known(&self)
         ensures shared { IsShared self.now }
     {
         let _ = &self.core;
     }
 
-    /// The first that there is for the seat: a ticket, a delivery, or nothing now or any more.
+    /// The first work that there is for the seat: a ticket, a delivery, nothing now, or nothing any more.
     pub(crate) fn next(
         &mut self,
         alloc: Global,
@@ -180,7 +180,7 @@ impl<C: Core> Board<C> {
         }))
     }
 
-    // Delivers an answer to the lowest update that waits for one, where no ticket can be given.
+    // Delivers an answer to the lowest update that waits for one, if no ticket can be given.
     fn deliver(
         &mut self,
         alloc: Global,
@@ -202,7 +202,7 @@ impl<C: Core> Board<C> {
         Ok(Next::Delivered { update })
     }
 
-    // Whether a ticket is out, where there is neither a ticket to give nor a delivery to make.
+    // If there is neither a ticket to give nor a delivery to make: whether a ticket is out.
     fn wait(&self) -> Next<Ticket<C::Snapshot>>
         requires none { lowest_idle self.now.over self.now.history self.now.busy ≡ None }
         requires quiet { lowest_waiting self.now.over self.now.history ≡ None }
@@ -235,8 +235,8 @@ impl<C: Core> Board<C> {
         leave(&mut self.busy, update);
     }
 
-    /// Makes the step of the plan, unless an entry since the ticket was given makes it stale. The ticket is returned in
-    /// both cases; for want of memory it comes back, and is out still.
+    /// Makes the step of the plan, unless an entry since the ticket was given makes the plan stale. In both cases the ticket is
+    /// spent. If memory runs out, the ticket comes back and is still out.
     pub(crate) fn finish(
         &mut self,
         alloc: Global,
@@ -272,7 +272,7 @@ impl<C: Core> Board<C> {
         }
     }
 
-    // Makes the step of the plan, and returns the ticket. It gives the number of the entry.
+    // Makes the step of the plan, and marks the ticket as returned. The result is the number of the entry.
     fn step(
         &mut self,
         alloc: Global,
@@ -318,7 +318,7 @@ fn lowest(numbers: &[u32]) -> Option<u32>
     low
 }
 
-// The update is in flight no more.
+// Removes the update from those in flight.
 fn leave(busy: &mut Vec<u32>, update: u32)
     ensures left { busy.new.items ≡ left_of update busy.old.items }
 {

@@ -1,12 +1,12 @@
-//! What a desk asks of the core behind its lock.
+//! What a desk asks of the core inside its lock.
 
 use def_memory::Memory;
 use std::alloc::Global;
 
-/// A core as a desk works at it: updates that make steps in any order, with the history of all that was done.
+/// A core as a desk uses it: updates that make steps in any order, with the history of all events.
 ///
-/// Its meaning is given by members that exist in contracts alone: what its history is over, and the entries of that
-/// history. A snapshot stands for an update at the state that some entries leave; a plan is an update's step there.
+/// Members that exist in contracts alone give its meaning: what its history is over, and the entries of that history. A snapshot
+/// stands for an update at the state that some entries leave; a plan is the update's step at that state.
 pub trait Core {
     ghost use Rattle.std.specs.Prelude.{◌≡◌, ◌<◌, ◌≤◌, ◌^◌, ℕ, List, Option, Some, length, IfOk, IfErr, IfSome, IfNone};
     ghost use Rattle.def_history.specs.Cores.{Ground, IsLegalOver};
@@ -22,7 +22,7 @@ pub trait Core {
     /// What the core's history is over.
     ghost over: { Self → Ground };
 
-    /// The entries of its history.
+    /// The entries of the core's history.
     ghost history: { Self → List PlainEntry };
 
     /// The snapshot stands for the update at the state that these entries leave.
@@ -31,16 +31,16 @@ pub trait Core {
     /// The plan is the step of the update at the state that these entries leave.
     ghost is_plan: { Self.Plan → Ground → List PlainEntry → ℕ → Type 0 };
 
-    /// Lets a snapshot go.
+    /// Drops a snapshot.
     fn drop_snapshot(snapshot: Self::Snapshot);
 
-    /// Lets a plan go.
+    /// Drops a plan.
     fn drop_plan(plan: Self::Plan);
 
-    /// The number of the first entry past so many by which the plan is stale.
+    /// The number of the first entry, after a given number of entries, by which the plan is stale.
     ghost stale_since: { Self.Plan → Ground → List PlainEntry → ℕ → Option ℕ };
 
-    /// How many entries the history has. It is legal.
+    /// The number of entries of the history, which is legal.
     fn length(&self) -> u64
         ensures length { result ≡ length (history self.now) }
         ensures few { length (history self.now) < 2 ^ 63 }
@@ -55,11 +55,11 @@ pub trait Core {
     fn lowest_waiting(&self) -> Option<u32>
         ensures { result ≡ lowest_waiting (over self.now) (history self.now) };
 
-    /// The lowest update that an answer can be delivered to, where that is to come before any step.
+    /// The lowest update that an answer can be delivered to, if that delivery must come before any step.
     fn first_waiting(&self) -> Option<u32>
         ensures lowest { IfSome result (λ u. lowest_waiting (over self.now) (history self.now) ≡ Some u) };
 
-    /// Delivers the first of the answers that wait for the update. If it is refused, the history is unchanged.
+    /// Delivers the first of the answers that wait for the update. After an error the history is unchanged.
     fn deliver(&mut self, alloc: Global, update: u32) -> Result<(), Memory>
         requires waiting { lowest_waiting (over self.old) (history self.old) ≡ Some update }
         ensures over { over self.new ≡ over self.old }
@@ -71,24 +71,25 @@ pub trait Core {
         requires ready { IsReady (over self.now) (history self.now) update }
         ensures is { IfOk result (λ s. is_snapshot s (over self.now) (history self.now) update) };
 
-    /// The step that the snapshot tells. It needs no core.
+    /// The step that the snapshot determines. It needs no core.
     fn plan(alloc: Global, snapshot: &Self::Snapshot) -> Result<Self::Plan, Memory>
         ensures plan { IfOk result (IsPlanOf is_snapshot is_plan snapshot.now) };
 
-    /// The update's next step, without a snapshot. The core may keep what planning it told, which is seen of none.
+    /// The update's next step, without a snapshot. The core may keep what it learned while planning, which does not change its
+    /// history.
     fn next_plan(&mut self, alloc: Global, update: u32) -> Result<Self::Plan, Memory>
         requires ready { IsReady (over self.old) (history self.old) update }
         ensures over { over self.new ≡ over self.old }
         ensures history { history self.new ≡ history self.old }
         ensures plan { IfOk result (λ p. is_plan p (over self.old) (history self.old) update) };
 
-    /// The number of the first entry past so many by which the plan is stale. Where there is none the plan, made at the state
-    /// before them, is the update's step still.
+    /// The number of the first entry after the first `since` by which the plan is stale. If there is none, a plan made at the
+    /// state after those first entries is still the update's step.
     fn stale_by(&self, plan: &Self::Plan, since: u64) -> Option<u64>
         ensures entry { result ≡ stale_since plan.now (over self.now) (history self.now) since }
         ensures stays { IfNone result (HasStayed over history self.now (is_plan plan.now) since) };
 
-    /// Makes the step of the plan. If it is refused, the history is unchanged.
+    /// Makes the step of the plan. After an error the history is unchanged.
     fn install(&mut self, alloc: Global, plan: Self::Plan) -> Result<(), Memory>
         requires plan { (u : ℕ) × is_plan plan (over self.old) (history self.old) u }
         ensures over { over self.new ≡ over self.old }

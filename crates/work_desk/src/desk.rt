@@ -11,8 +11,8 @@ use std::sync::Wait;
 use std::time::Clock;
 use work_lock::{Seat, StampLock, new};
 
-/// A core that seats work at: each asks for tickets, works their steps out by itself, and hands them in. It keeps, for
-/// contracts, the core that it was opened over.
+/// A core that seats share: each asks for tickets, plans their steps outside the lock, and hands the plans in. For contracts it
+/// keeps the core that it was opened over.
 pub struct Desk<C: Core> {
     lock: StampLock<Board<C>>,
     alloc: Global,
@@ -29,8 +29,8 @@ impl<C: Core> Desk<C> {
     ghost use Rattle.work_desk.specs.Tickets.{IsPlanFor, IfGiven};
     ghost use Rattle.work_desk.specs.Calls.{IsOutAt, AnswersNext, Stretches, Finishes, TakesBack};
 
-    /// A desk over the core, with this many seats, from 1 to 16, numbered from 0 in order. Each seat has seen the opening,
-    /// which has the core's whole history. Where there is no memory the core comes back.
+    /// A desk over the core, with `seats` seats, from 1 to 16, numbered from 0 in order. Each seat has seen the opening, which
+    /// has the core's whole history. If memory runs out, the core comes back with the error.
     pub fn new(
         alloc: Global,
         core: C,
@@ -59,7 +59,7 @@ impl<C: Core> Desk<C> {
         }
     }
 
-    /// The first that there is: a ticket for the lowest ready update that is not in flight, a delivery to the lowest update
+    /// The first work that there is: a ticket for the lowest ready update that is not in flight, a delivery to the lowest update
     /// that waits for a recorded answer, nothing now, or nothing any more.
     pub fn next<R: Wait>(
         &self,
@@ -78,9 +78,9 @@ impl<C: Core> Desk<C> {
         answer
     }
 
-    /// Makes up to `most` moves in one turn: each delivers an answer that the core says is to come first, or else makes the step of
-    /// the lowest ready update that is not in flight; until there is none or, where there are other seats, a step was not small.
-    /// For want of memory those that were made stay.
+    /// Makes up to `most` moves in one turn. A move delivers an answer, if the core says that one must come first; otherwise it
+    /// makes the step of the lowest ready update that is not in flight. It ends early if no move is left or, if there are other
+    /// seats, after a step that was not small. If memory runs out, the moves that were made stay.
     pub fn stretch<R: Wait + Clock>(
         &self,
         rt: &R,
@@ -98,15 +98,16 @@ impl<C: Core> Desk<C> {
         stretch
     }
 
-    /// The step of the ticket's update at the state that the ticket was given at. It takes neither the lock nor the runtime.
+    /// Plans the step of the ticket's update at the state that the ticket was given at. It needs neither the lock nor the
+    /// runtime.
     pub fn evaluate(&self, ticket: &Ticket<C::Snapshot>) -> Result<C::Plan, Memory>
         ensures plan { IfOk result (IsPlanFor C.is_snapshot C.is_plan ticket.now) }
     {
         C::plan(self.alloc, &ticket.snapshot)
     }
 
-    /// Hands the plan in, which spends the ticket. The step is made, unless an entry since the ticket was given makes the
-    /// plan stale; nothing is evaluated. For want of memory the ticket comes back, and is out still.
+    /// Hands the plan in, which spends the ticket. The step is made, unless an entry since the ticket was given makes the plan
+    /// stale; no query is evaluated. If memory runs out, the ticket comes back and is still out.
     pub fn finish<R: Wait>(
         &self,
         rt: &R,
@@ -145,8 +146,9 @@ impl<C: Core> Desk<C> {
         self.lock.close_turn(seat, turn, board);
     }
 
-    /// Ends the desk and gives the core. The seats are those that `new` gave, each once and in order of their numbers, and none
-    /// holds a turn. Where each of them is at rest, the core's history is the serial machine's on the whole session.
+    /// Ends the desk and gives the core. It takes the seats that `new` gave, each once and in order of their numbers; none holds
+    /// a turn. If the opening admitted the whole session and every seat is at rest, the core's history has the serial machine's
+    /// result.
     pub fn close(self, seats: Vec<Seat<Board<C>>>) -> C
         requires some { 0 < length seats.items }
         requires seats { AreSeats (desk_lock self) (length seats.items) seats.items }

@@ -1,4 +1,4 @@
-//! A desk: tickets for the steps of a core, handed out over a lock with turns.
+//! A desk: tickets for the steps of a core, given out inside a lock with turns.
 #![tactic(auto)]
 
 mod bench;

@@ -1,4 +1,4 @@
-//! Steps and deliveries that a seat makes behind the lock, several in one turn.
+//! Steps and deliveries that a seat makes inside the lock, several in one turn.
 ghost use Rattle.std.specs.Prelude.{◌≡◌, ◌+◌, ◌≤◌, ◌++◌, Some, OnOk, OnErr, vec_len, vec_capacity};
 ghost use Rattle.work_desk.specs.Cores.{lowest_idle, lowest_waiting, IsReady, IsStep};
 ghost use Rattle.work_desk.specs.Marks.{step_marked};
@@ -16,9 +16,9 @@ impl<C: Core> Board<C> {
     ghost use Rattle.work_desk.specs.Shared.{items_of};
     ghost use Rattle.work_desk.specs.Stretches.{MadeDeliveryOn, MadeStepOn, MakesMoveOn, StretchOn};
 
-    /// Makes up to `most` moves for the seat: each delivers an answer that is to come first, if there is one, and else makes the step
-    /// of the lowest ready update that is not in flight; until there is none or, where the seat is not alone, a step was not small.
-    /// It makes no more than one where a ticket is out.
+    /// Makes up to `most` moves for the seat, and at most one while a ticket is out. A move delivers an answer, if one must come
+    /// first; otherwise it makes the step of the lowest ready update that is not in flight. It ends early if no move is left or,
+    /// if the seat is not alone, after a step that was not small.
     pub(crate) fn stretch<R: Clock>(
         &mut self,
         rt: &R,
@@ -49,7 +49,8 @@ impl<C: Core> Board<C> {
         })
     }
 
-    // How many of these moves may be made now. Where a ticket is out they could run ahead of its update, and begin anew because of it.
+    // How many of these moves may be made now. While a ticket is out, moves could run ahead of its update and be restarted
+    // because of it.
     fn at_once(&self, most: u64) -> u64 {
         if self.busy.is_empty() {
             most
@@ -58,8 +59,9 @@ impl<C: Core> Board<C> {
         }
     }
 
-    // Delivers an answer that is to come first, or makes the step of the lowest ready update that is not in flight, if there is one, and
-    // tells whether the seat may go on: it delivered, it is alone, or the step was small.
+    // Makes one move: delivers an answer that must come first, or else makes the step of the lowest ready update that is not in
+    // flight. The result is `None` if there was no move; else whether the seat may go on: it delivered, it is alone, or the step
+    // was small.
     fn move_lowest<R: Clock>(
         &mut self,
         rt: &R,
@@ -97,8 +99,8 @@ impl<C: Core> Board<C> {
         Ok(())
     }
 
-    // Makes the step of the lowest ready update that is not in flight, with the marks of a ticket that is given and returned, and
-    // tells whether the seat may go on.
+    // Makes the step of the lowest ready update that is not in flight, with the marks of a ticket that is given and returned. The
+    // result is whether the seat may go on.
     fn step_whole<R: Clock>(
         &mut self,
         rt: &R,
@@ -121,8 +123,8 @@ impl<C: Core> Board<C> {
     }
 }
 
-// Makes the update's next step, and tells whether the seat may go on: it is alone, or the step was small, its plan made soon. It
-// takes no snapshot, since nothing else is done meanwhile.
+// Makes the update's next step. The result is whether the seat may go on: it is alone, or the step was small, that is, planned
+// quickly. It takes no snapshot, since nothing else happens meanwhile.
 fn make_step<R: Clock, C: Core>(
     rt: &R,
     core: &mut C,
@@ -143,12 +145,12 @@ fn make_step<R: Clock, C: Core>(
     Ok(more)
 }
 
-// A watch that starts now, unless the seat is alone: nobody then waits for the end of its steps.
+// A watch that starts now, unless the seat is alone: then nobody waits for the end of its steps.
 fn watch_unless<R: Clock>(rt: &R, alone: bool) -> Option<Watch> {
     if alone { None } else { Some(Watch::start(rt)) }
 }
 
-// Whether a seat with this watch goes on, the time since then being that of a step.
+// Whether a seat goes on whose step began when this watch was started.
 fn goes_on<R: Clock>(rt: &R, watch: &Option<Watch>) -> bool {
     match watch {
         Some(watch) => watch.shows_small(rt),
@@ -156,7 +158,8 @@ fn goes_on<R: Clock>(rt: &R, watch: &Option<Watch>) -> bool {
     }
 }
 
-// Marks that the seat was given a ticket of this number for the update, made its step and returned it. There is room for that.
+// Marks that the seat was given the ticket `number` for the update, made its step and returned it. There is room for the three
+// marks.
 fn mark_step(marks: &mut Vec<Marked>, seat: u64, number: u64, update: u32)
     requires room { vec_len marks.old + 3 ≤ vec_capacity marks.old }
     ensures marks { marks.new.items ≡ marks.old.items ++ step_marked seat number update }

@@ -1,4 +1,4 @@
-//! Tickets, and what a desk answers to those who ask for them and hand them in.
+//! Tickets, and what a desk answers to a seat that asks for one or hands one in.
 ghost use Rattle.std.specs.Prelude.{◌≡◌};
 
 /// A ticket for the next step of an update. It has to be spent by `Desk::finish` or `Desk::give_back`: it can neither be
@@ -11,21 +11,21 @@ pub struct Ticket<S> {
 }
 
 impl<S> Ticket<S> {
-    /// Its number; a desk's tickets are numbered from 1.
+    /// The ticket's number; a desk numbers its tickets from 1.
     pub fn number(&self) -> u64
         ensures { result ≡ self.now.number }
     {
         self.number
     }
 
-    /// The update that it is for.
+    /// The update that the ticket is for.
     pub fn update(&self) -> u32
         ensures { result ≡ self.now.update }
     {
         self.update
     }
 
-    /// How many entries the history had when it was given.
+    /// The number of entries of the history when the ticket was given.
     pub fn stamp(&self) -> u64
         ensures { result ≡ self.now.stamp }
     {
@@ -39,7 +39,7 @@ pub enum Next<T> {
     Ticket(T),
     /// An answer was delivered to the lowest update that could have one.
     Delivered { update: u32 },
-    /// There is nothing to do now, but a ticket is out; this is the lowest update in flight.
+    /// There is nothing to do now, but a ticket is out; `in_flight` is the lowest update in flight.
     Idle { in_flight: u32 },
     /// Nothing is left to do.
     Quiet,
@@ -48,17 +48,17 @@ pub enum Next<T> {
 /// What became of a plan that was handed in.
 #[derive(Drop)]
 pub enum Finished {
-    /// The step was made, by the entry of this number.
+    /// The step was made; `entry` is the number of its entry.
     Stepped { entry: u64 },
-    /// The plan is stale by the entry of this number. No step was made.
+    /// The entry with the number `entry` makes the plan stale. No step was made.
     Stale { entry: u64 },
 }
 
 /// What came of a stretch: steps and deliveries that a seat made in one turn.
 #[derive(Drop)]
 pub struct Stretch {
-    /// How many were made.
+    /// The number of moves that were made.
     pub made: u64,
-    /// Whether more may be made so: each was small, and none was wanting. It is a hint.
+    /// Whether more moves may follow: each move let the seat go on, and there was always one to make. It is a hint.
     pub more: bool,
 }

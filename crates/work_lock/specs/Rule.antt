@@ -14,7 +14,7 @@ use Rattle.def_record.specs.Makers.{FollowsAmong}
 abbrev pub wrap : ℕ → ℕ
 wrap n = n % 2 ^ 64
 
--- in this stage a seat has the turn t
+-- a seat in this stage has the turn t
 abbrev pub HasTurn : ℕ → Stage → Type 0
 HasTurn t (Waiting u) = t ≡ u
 HasTurn t (Opened u) = t ≡ u
@@ -46,14 +46,14 @@ module _ {E : Type 0} where
   IsSpent views k = (w : View E) × (get_elem? views k ≡ some w) × (w.stage ≡ Spent)
 
   module _ {V : Type 0} (entries : V → List (Made E)) where
-    -- What the j-th of n seats knows is so, where `given` turns were given, `passed` were passed, and `current` is the history.
+    -- What the j-th of n seats knows is true if `given` turns were given, `passed` were passed, and `current` is the history.
     abbrev pub Fits : ℕ → ℕ → List (Made E) → List (Option (rattle.Option V)) → ℕ → ℕ → View E → Stage → Type 0
     Fits given passed current homes n j v Spent = Unit {0}
     Fits given passed current homes n j v Resting = (v.number ≡ j) × FollowsAmong n j v.seen current
     Fits given passed current homes n j v (Waiting t) = (v.number ≡ j) × FollowsAmong n j v.seen current × (passed ≤ t) × (t < given)
     Fits given passed current homes n j v (Opened t) = (v.number ≡ j) × (v.seen ≡ current) × (t ≡ passed) × (t < given) × (homes ≡ none ∷ [])
 
-    -- The rule, over the three lists of a table's state. The README tells what each line is for.
+    -- The rule, over the three lists of a table's state. The README explains each line.
     pub record KeptOf (words : List ℕ) (homes : List (Option (rattle.Option V))) (views : List (View E)) : Type 0 where
       -- the history, and how many turns were given and passed, never wrapped
       pub current : List (Made E)

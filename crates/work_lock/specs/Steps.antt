@@ -1,4 +1,4 @@
--- What each atomic step tells the seat that makes it, where m is what the seat knows and holds before, and m' after.
+-- What each atomic step tells the seat that makes it: m is what the seat knows and holds before the step, m' after it.
 use Rattle.std.specs.Prelude.{◌≡◌, ℕ, ◌+◌, ◌==◌, List, [], ◌∷◌, ◌++◌, MatchBool, Some}
 use Rattle.std.specs.declared.option.Option as rattle
 use mathlib.Core.Option.{some}
@@ -23,7 +23,7 @@ module _ {E : Type 0} where
   abbrev pub dealer : View E → View E
   dealer v = view v.number v.seen v.stage (v.dealt + 1) v.joined
 
-  -- splitting a seat: the new one has the next number, and has seen the same
+  -- splitting a seat: the new one has the next number, and has seen the same history as the first
   abbrev pub dealt : View E → View E
   dealt v = view v.dealt v.seen Resting 0 []
 
@@ -49,10 +49,10 @@ module _ {E : Type 0} where
       abbrev pub Serves : Me (rattle.Option V) (View E) → ℕ → Me (rattle.Option V) (View E) → Type 0
       Serves m t m' = (x : V) × (m' ≡ (having_seen (in_stage m.0 (Opened t)) (entries x), (0, Some x) ∷ m.1)) × Follows m.0.number m.0.seen (entries x)
 
-      -- looking at serving: the seat's turn is served exactly where its number was found, and else nothing changes
+      -- looking at serving: the seat's turn is served if its number was found; otherwise nothing changes
       abbrev pub looks : Step (rattle.Option V) → Me (rattle.Option V) (View E) → ℕ → Me (rattle.Option V) (View E) → Type 0
       looks st m found m' = (t : ℕ) → m.0.stage ≡ Waiting t → MatchBool (found == wrap t) (Serves m t m') (m' ≡ m)
 
-      -- counting the history: the seat has seen that of the value which the step announces
+      -- counting the history: the seat has seen the history of the value that the step announces
       abbrev pub counts : Step (rattle.Option V) → Me (rattle.Option V) (View E) → ℕ → Me (rattle.Option V) (View E) → Type 0
       counts st m found m' = (x : V) → st.said ≡ some (Some x) → m' ≡ (having_seen m.0 (entries x), m.1)

@@ -24,7 +24,7 @@ module _ {V E : Type 0} where
   abbrev pub IsSameInTable : table.Seat (rattle.Option V) (View E) → table.Seat (rattle.Option V) (View E) → Type 0
   IsSameInTable s t = (t.table_id ≡ s.table_id) × (t.id ≡ s.id)
 
-  -- the seat waits for the turn whose number its word has as this one, and holds no slot
+  -- the seat waits for the turn that its word writes as this number, and holds no slot
   abbrev pub WaitsFor : ℕ → Me (rattle.Option V) (View E) → Type 0
   WaitsFor number m = (m.1 ≡ []) × ((t : ℕ) × (m.0.stage ≡ Waiting t) × (wrap t ≡ number))
 
@@ -32,7 +32,7 @@ module _ {V E : Type 0} where
   abbrev pub IsServed : (V → List (Made E)) → Me (rattle.Option V) (View E) → Me (rattle.Option V) (View E) → Type 0
   IsServed entries m m' = (t : ℕ) × (x : V) × (m' ≡ (having_seen (in_stage m.0 (Opened t)) (entries x), (0, Some x) ∷ [])) × Follows m.0.number m.0.seen (entries x)
 
-  -- the first seat, where the lock has n seats so far
+  -- the first seat of a lock that has n seats so far
   abbrev pub IsDealer : TableId → ℕ → Seat V E → Type 0
   IsDealer lock n s = (place_of s ≡ place_at lock n 0) × IsAtRest s
 

@@ -1,4 +1,5 @@
-// The lock is Send and Sync, and seats and turns are Send, where the value is Send: a missing proof would show here, and not first where threads start.
+// If the value is Send, the lock is Send and Sync, and seats and turns are Send. A missing proof shows here, before it shows
+// where threads start.
 
 use crate::history::Grows;
 use crate::lock::StampLock;

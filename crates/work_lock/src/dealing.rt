@@ -14,7 +14,8 @@ use def_memory::Memory;
 use std::alloc::{AllocFailed, Global};
 use std::snapshot::Snapshot;
 
-/// A lock over the value, with this many seats, from 1 to 16, numbered from 0 in order. Each seat has seen the value's whole history. Where there is no memory the value comes back.
+/// A lock over the value, with `seats` seats, from 1 to 16, numbered from 0 in order. Each seat has seen the value's whole
+/// history. If memory runs out, the value comes back with the error.
 pub fn new<V: Grows>(
     alloc: Global,
     value: V,
@@ -99,7 +100,8 @@ impl<V: Grows> StampLock<V> {
         }
     }
 
-    /// Ends the lock and gives the value. The seats are those that `new` gave, each once and in order of their numbers, and none holds a turn. The value's history begins with what each has seen, and goes on by entries of the others.
+    /// Ends the lock and gives the value. It takes the seats that `new` gave, each once and in order of their numbers; none holds
+    /// a turn. The value's history begins with what each seat has seen, and goes on by entries of the other seats.
     pub fn into_value(self, mut seats: Vec<Seat<V>>) -> V
         requires some { 0 < length seats.items }
         requires seats { AreSeats (lock_id self) (length seats.items) seats.items }

@@ -5,7 +5,7 @@ pub trait Grows {
     ghost use Rattle.std.specs.Prelude.{◌≡◌, List, length};
     ghost use Rattle.def_record.specs.declared.made.Made.{Made};
 
-    /// What the history is a list of. It may be a type that exists in contracts alone.
+    /// The type of the history's entries. It may exist in contracts alone.
     type Entry;
 
     /// The value's history.

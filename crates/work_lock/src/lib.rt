@@ -1,6 +1,9 @@
 //! A lock with turns, over a value whose history only grows.
 //!
-//! `new` puts a value under a lock and deals seats, one for each thread. A thread opens a turn with its seat, has the value for itself, may add entries to its history, and closes the turn. What a seat has seen of the history is always a prefix of it, and only the seat itself adds entries of its own. `README.md`, beside this folder, has the promise, the atomic steps and the rule that they keep.
+//! `new` puts a value under a lock and deals seats, one for each thread. A thread opens a turn with its seat, has the value for
+//! itself, may add entries to its history, and closes the turn. What a seat has seen is always a prefix of the history, and only
+//! the seat itself adds entries of its own. `README.md`, beside this folder, has the promise, the atomic steps and the rule that
+//! they keep.
 #![tactic(auto)]
 
 mod crossing;

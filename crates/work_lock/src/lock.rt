@@ -11,7 +11,8 @@ use std::alloc::Global;
 use std::snapshot::Snapshot;
 use std::sync::Wait;
 
-// The table's words: the turns given, the turns passed, and the length of the history. Its one slot holds the value.
+// The table's words: how many turns were given, how many were passed, and the length of the history. Its one slot holds the
+// value.
 pub(crate) const GIVEN: usize = 0;
 
 pub(crate) const PASSED: usize = 1;
@@ -52,7 +53,7 @@ impl<V: Grows> StampLock<V> {
         (turn, value)
     }
 
-    // Looks until the turn of this number is served.
+    // Waits until the turn of this number is served.
     fn wait_for<R: Wait>(
         &self,
         rt: &R,
@@ -77,7 +78,8 @@ impl<V: Grows> StampLock<V> {
         unreachable!()
     }
 
-    // Sleeps until the turn is passed, or for a while. A seat that a pass woke in vain wakes the one that slept next to it first, so that the wake gets to the seat that is served.
+    // Sleeps until the turn is passed, or for a while. A seat that a pass woke in vain first wakes another sleeper, so that the
+    // wake reaches the seat that is served.
     fn sleep<R: Wait>(&self, rt: &R, pause: &mut Pause, serving: u64) {
         if pause.slept_past(serving) {
             self.table.shared.wake_one(PASSED);
@@ -88,14 +90,15 @@ impl<V: Grows> StampLock<V> {
             .park_timeout(rt, PASSED, low, Pause::nap());
     }
 
-    // Wakes a seat that sleeps, if one waits for a turn after those passed.
+    // Wakes a sleeping seat, if a seat waits for a turn that is not yet passed.
     fn wake(&self, passed: u64) {
         if self.table.shared.peek(GIVEN) != passed {
             self.table.shared.wake_one(PASSED);
         }
     }
 
-    /// Puts the value back and passes the turn. The value's history has to go on from the one at `open` by entries of this seat alone.
+    /// Puts the value back and passes the turn. Since `open`, only entries of this seat may have been added to the value's
+    /// history.
     pub fn close_turn(&self, seat: &mut Seat<V>, turn: Turn<V>, value: V)
         requires lock { lock_of seat.old ≡ lock_id self.now }
         requires turn { IsTurnOf turn seat.old }

@@ -3,13 +3,13 @@
 use std::time::Duration;
 use std::{hint, thread};
 
-// How often the seat that is next in line looks in vain before it yields the processor.
+// How many times the next seat in line looks in vain before it yields the processor.
 const LOOKS: u32 = 32;
 
-// How often a seat yields the processor before it sleeps.
+// How many times a seat yields the processor before it sleeps.
 const YIELDS: u32 = 4;
 
-// The longest sleep. A pass of the turn ends it before, so this only bounds what a wake that comes late can cost.
+// The longest sleep. A pass of the turn wakes the seat earlier, so this only bounds the cost of a late wake.
 const NAP_MILLIS: u64 = 4;
 
 // A wait for a turn: what may still be done before the seat sleeps, and which turn was served when it last fell asleep.
@@ -29,7 +29,8 @@ impl Pause {
         }
     }
 
-    // Lets a moment go by, if the seat may still look again without a sleep. One that is next in line tries for a short while to catch the end of the turn before.
+    // Lets a moment go by, if the seat may still look again without a sleep. The next seat in line first spins a short while, to
+    // catch the end of the turn before its own.
     pub(crate) fn lets_look(&mut self, ahead: u64) -> bool {
         if ahead == 1 && self.looks > 0 {
             self.looks -= 1;
@@ -44,7 +45,8 @@ impl Pause {
         false
     }
 
-    // Notes that the seat falls asleep while this turn is served. Whether it has slept through a pass of the turn, whose wake then was for another.
+    // Notes that the seat falls asleep while this turn is served. True if it last fell asleep at another turn: the wake since
+    // then was for another seat.
     pub(crate) fn slept_past(&mut self, serving: u64) -> bool {
         self.slept_at
             .replace(serving)

@@ -12,7 +12,7 @@ impl<V: Grows> Play<Option<V>, View<V::Entry>> for Take {
     ghost then = { takes };
 }
 
-// The seat looks at the number that is served. Where it is its own, it takes the slot.
+// The seat looks at the number that is served. If it is its own, it takes the slot.
 pub(crate) struct Look;
 
 impl<V: Grows> Play<Option<V>, View<V::Entry>> for Look {

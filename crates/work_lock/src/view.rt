@@ -1,4 +1,4 @@
-// What a seat knows, and the rule of the lock's words and slot. Nothing here is ever in memory.
+// What a seat knows, and the rule of the lock's words and slot. These types exist in contracts alone.
 
 use crate::history::Grows;
 use atomic_table::TableRule;

@@ -17,7 +17,8 @@ is_move (WasDelivered e) = true
 is_move (WasAnswered e) = false
 is_move (WasWithdrawn e) = false
 
--- The entries are the history of a run of the session to its end: a legal one that begins with the admissions of all its updates, goes on by steps and deliveries alone, and ends quiet.
+-- The entries are the history of a run of the session to its end: a legal history that begins with the admissions of all its
+-- updates, goes on by steps and deliveries alone, and ends quiet.
 pub record IsRunOf (s : SessionData) (budget : ℕ) (c : Settings) (H : List PlainEntry) : Type 0 where
   pub legal : IsLegalOver (ground_of s budget c) H
   pub moves : List PlainEntry
@@ -25,18 +26,18 @@ pub record IsRunOf (s : SessionData) (budget : ℕ) (c : Settings) (H : List Pla
   pub alone : list_all is_move moves ≡ true
   pub quiet : is_quiet_at (record { over = ground_of s budget c; history = H }) ≡ true
 
--- A session that was run, with the budget of each update and the settings, and the entries of its history.
+-- A session that was run, with the budget of each update, the settings, and the entries of its history.
 pub record Run : Type 0 where
   pub session : SessionData
   pub budget : ℕ
   pub settings : Settings
   pub history : List PlainEntry
 
--- The history is that of a run of the session to its end.
+-- The history is the one of a run of the session to its end.
 abbrev pub IsWholeRun : Run → Type 0
 IsWholeRun r = IsRunOf r.session r.budget r.settings r.history
 
--- The core has come to the end of a run of a session that the serial machine takes.
+-- The core is at the end of a run of a session whose base violates no mapping.
 pub record IsWorked (s : SessionData) (budget : ℕ) (c : Settings) (core : State) : Type 0 where
   pub valid : IsSession s
   pub met : base_violation s ≡ None

@@ -1,4 +1,4 @@
--- What a plan of a core, and a snapshot seen as the step that it plans, stand for at a desk.
+-- What a plan of a core stands for at a desk, and so does a snapshot, seen as the step that it plans.
 use Rattle.std.specs.Prelude.{◌≡◌, ℕ, List, Option}
 use Rattle.def_history.specs.Cores.{Ground}
 use Rattle.def_history.specs.PlainEntries.{PlainEntry}
@@ -12,6 +12,6 @@ pub record IsStepOf (p : PlanMeant) (g : Ground) (H : List PlainEntry) (n : ℕ)
   pub ready : IsReady g H n
   pub step : IsStepAt (record { over = g; history = H }) p
 
--- The number of the first entry, past so many, by which the step is stale.
+-- The number of the first entry after the first `since` by which the step is stale.
 abbrev pub plan_stale_by : PlanMeant → Ground → List PlainEntry → ℕ → Option ℕ
 plan_stale_by p g H since = stale_by g.rules p.update p.reads H since

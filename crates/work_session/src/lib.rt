@@ -1,6 +1,6 @@
-//! A session run by worker threads: the proved core behind the proved desk, and the serial machine's result.
+//! A session run by worker threads: the core inside a desk, and the serial machine's result.
 //!
-//! `README.md` has the contract. What a run comes to is said in `specs/Runs.antt`.
+//! `README.md` has the contract. `specs/Runs.antt` defines what a run comes to.
 #![tactic(auto)]
 
 mod seated;

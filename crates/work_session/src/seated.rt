@@ -1,4 +1,4 @@
-//! The core of a session as a desk works at it.
+//! The core of a session as a desk uses it.
 ghost use Rattle.std.specs.Prelude.{◌≡◌, map};
 ghost use Rattle.base_types.specs.Meanings.{rule_of};
 
@@ -8,8 +8,8 @@ use std::alloc::Global;
 use std::marker::Model;
 use work_stale::stale_by;
 
-/// A core, and the mappings of its session, by which it is told whether an entry makes a plan stale. Contracts see
-/// what its history is over, and the entries of that history.
+/// A core with the mappings of its session, which decide whether an entry makes a plan stale. Contracts see what its history is
+/// over, and the entries of that history.
 #[derive(Drop)]
 pub struct Seated<'s> {
     core: Core<'s>,
@@ -20,9 +20,9 @@ pub struct Seated<'s> {
 /// When a seat that makes several moves in one turn delivers an answer.
 #[derive(Clone, Copy)]
 pub enum Answers {
-    /// To the first update that is not committed, as soon as that waits for one: the updates above then begin anew less often.
+    /// To the first update that is not committed, as soon as it waits for one: then the updates above it restart less often.
     AtOnce,
-    /// Where no step can be made, as a seat that asks for a ticket does.
+    /// If no step can be made, as for a seat that asks for a ticket.
     Last,
 }
 

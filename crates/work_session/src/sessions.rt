@@ -26,8 +26,8 @@ use std::thread::Threads;
 use std::time::Clock;
 use work_loop::Gate;
 
-/// How a session is run: the settings of its core, the budget of an attempt, how many workers take the steps, and when
-/// recorded answers are delivered.
+/// How a session is run: the settings of its core, the budget of an attempt, the number of workers, and when recorded answers are
+/// delivered.
 #[derive(Clone, Copy)]
 pub struct Working {
     pub settings: Settings,
@@ -73,7 +73,7 @@ impl<'s> WorkedSession<'s> {
         self.core.history()
     }
 
-    /// What the session came to: whatever the schedule of the workers, that is its serial run.
+    /// The session's result: whatever the schedule of the workers, it is the result of the serial run.
     pub fn result(&self, alloc: Global) -> Result<SessionResult, Memory>
         ensures serial { IfOk result (IsSerialRun self.now.budget self.now.session) }
     {
@@ -83,8 +83,8 @@ impl<'s> WorkedSession<'s> {
     }
 }
 
-/// Runs the session by as many workers as seats, from 1 to 16, each in a thread of its own, until nothing is left to do. Where no
-/// thread can be made the calling thread works in its place. Recorded answers are delivered at once.
+/// Runs the session by `seats` workers, from 1 to 16, each in a thread of its own, until nothing is left to do. If a thread
+/// cannot be made, the calling thread works in its place. Recorded answers are delivered at once.
 pub fn worked<'s, R: Threads + Wait + Clock + Sync, G: Gate + Sync>(
     rt: &R,
     gate: &G,
@@ -114,7 +114,8 @@ pub fn worked<'s, R: Threads + Wait + Clock + Sync, G: Gate + Sync>(
     Ok(run)
 }
 
-/// The same over the base of the session, which is handed over as a set of tuples (`base_of`), with answers delivered as asked.
+/// Runs the session as `worked` does, with its base given as a set of tuples (`base_of`), and recorded answers delivered as
+/// `working` says.
 pub fn worked_over<'s, R: Threads + Wait + Clock + Sync, G: Gate + Sync>(
     rt: &R,
     gate: &G,

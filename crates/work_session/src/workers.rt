@@ -10,10 +10,9 @@ use std::time::Clock;
 use work_desk::{Core, Desk};
 use work_loop::{Gate, work_all};
 
-/// Lets as many workers as seats, from 1 to 16, take the steps of the core until nothing is left to do, each in a thread of
-/// its own, and gives the core. Where no thread can be made the calling thread works in its place. Whatever the schedule,
-/// the core's history is then the serial machine's on the whole session. For want of memory the core comes back as the
-/// workers left it.
+/// Runs the core by `seats` workers, from 1 to 16, each in a thread of its own, until nothing is left to do, and gives the core.
+/// If a thread cannot be made, the calling thread works in its place. Whatever the schedule, the core's history then has the
+/// serial machine's result on the whole session. If memory runs out, the core comes back as the workers left it.
 pub fn run<R: Threads + Wait + Clock + Sync, G: Gate + Sync, C: Core + Send>(
     rt: &R,
     gate: &G,

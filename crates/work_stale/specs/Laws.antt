@@ -1,4 +1,5 @@
--- The entries of a legal history tell the trails of its updates, and whether a step that was worked out before is the step still.
+-- The entries of a legal history determine the trails of its updates, and whether a step that was planned earlier is still the
+-- step.
 use Rattle.std.specs.Prelude.{◌≡◌, ℕ, suc, ◌≤◌, List, map, take, drop, length, None, Some, slice_get}
 use Rattle.def_machine.specs.Updates.{Update, trail, below}
 use Rattle.def_machine.specs.Steps.{step_log}
@@ -12,13 +13,13 @@ use Rattle.def_history.specs.Stale.{IsReadyAt, IsStepStill}
 use Rattle.work_stale.specs.Shown.{trail_by}
 use Rattle.work_stale.specs.Stale.{stale_by}
 
--- The trail of each update is what the entries tell.
+-- The trail of each update is the one computed from the entries.
 abbrev pub EntriesTellTheTrails : Type 0
 EntriesTellTheTrails =
     (g : Ground) (H : List PlainEntry) (k : ℕ) (u : Update (machine g)) → 1 ≤ g.budget → IsRepository g.base → IsLegalOver g H
     → slice_get (updates_after g H) k ≡ Some u → trail (machine g) u ≡ trail_by (suc k) H
 
--- The attempt of an update that is ready does what the update does.
+-- The attempt of a ready update does the update's operation.
 abbrev pub ReadyAttemptsDoTheirUpdate : Type 0
 ReadyAttemptsDoTheirUpdate =
     (g : Ground) (H : List PlainEntry) (k : ℕ) (u : Update (machine g)) → 1 ≤ g.budget → IsRepository g.base → IsLegalOver g H
@@ -40,7 +41,7 @@ pub record WasPlanned (g : Ground) (H : List PlainEntry) (n k : ℕ) (u : Update
   pub asks : queries_of reads ≡ queries_next g (take n H) k u
   pub spared : AllSpare {M = machine g} (suc k) (drop n (entries_over g H))
 
--- A step that was planned so is the step still where no later entry makes it stale.
+-- A step that was planned in this way is still the step, if no later entry makes it stale.
 abbrev pub StepsStayUnlessStale : Type 0
 StepsStayUnlessStale =
     (g : Ground) (H : List PlainEntry) (n k : ℕ) (u : Update (machine g)) (reads : List Read) → 1 ≤ g.budget → IsRepository g.base → IsLegalOver g H

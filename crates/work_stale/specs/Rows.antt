@@ -1,4 +1,4 @@
--- Small histories, worked by hand: by which entry a step of update 3 is stale that has read relation 0.
+-- Small histories, worked by hand: which entry makes a step stale that has read relation 0.
 use Rattle.std.specs.Prelude.{◌≡◌, ℕ, List, [], ◌∷◌, ◌++◌, Option, Some, None}
 use Rattle.def_machine.specs.Machine.{Spent}
 use Rattle.def_machine.specs.Standings.{Standing, Ready, Ended}
@@ -20,37 +20,38 @@ asks_for r = record { query = Present (tuple r); reply = No; own = 0 }
 abbrev pub three : List PlainEntry
 three = WasAdmitted 1 ∷ WasAdmitted 2 ∷ WasAdmitted 3 ∷ []
 
--- A step of update i, with its standing after it, its writes and the updates that it restarts.
+-- The cause by which update i restarts; a step of update i, with its standing after it, its writes and the causes of its
+-- restarts.
 abbrev pub dependence : ℕ → PlainCause
 dependence i = Dependent (record { reader = i; read = 1; on = 1 })
 
 abbrev pub a_step : ℕ → Standing → List Change → List PlainCause → PlainEntry
 a_step i s ws cs = WasStepped (record { update = i; attempt = 0; standing = s; writes = ws; causes = cs; committed = 0 })
 
--- It adds a tuple to the relation.
+-- A step of update i that adds a tuple to relation r.
 abbrev pub adds : ℕ → ℕ → PlainEntry
 adds i r = a_step i Ready (Insert (tuple r) ∷ []) []
 
--- It deletes one of relation 2, and restarts update j.
+-- A step of update i that deletes a tuple of relation 2, and restarts update j.
 abbrev pub restarts : ℕ → ℕ → PlainEntry
 restarts i j = a_step i Ready (Delete (tuple 2) ∷ []) (dependence j ∷ [])
 
--- Its attempt ends spent.
+-- A step of update i that ends its attempt spent.
 abbrev pub is_spent : ℕ → PlainEntry
 is_spent i = a_step i (Ended Spent) [] []
 
--- The update is withdrawn.
+-- Update i is withdrawn.
 abbrev pub withdrawal : ℕ → PlainEntry
 withdrawal i = WasWithdrawn (record { update = i; causes = []; committed = 0 })
 
--- For a step of update i that has read relation 0, after so many entries.
+-- The first entry, after the first `since`, that makes a step of update i stale that has read relation 0.
 abbrev pub first_for : ℕ → List PlainEntry → ℕ → Option ℕ
 first_for i H since = stale_by [] i (asks_for 0 ∷ []) H since
 
 pub record Rows : Type 0 where
   -- a lower update adds to the relation
   pub lower : first_for 3 (three ++ adds 1 1 ∷ adds 2 0 ∷ []) 3 ≡ Some 5
-  -- that was before
+  -- the entry that adds to the relation came before the step was planned
   pub before : first_for 3 (three ++ adds 2 0 ∷ adds 2 1 ∷ []) 4 ≡ None
   -- the writes of the update itself and of those above it do not make it stale
   pub upper : first_for 2 (three ++ adds 2 0 ∷ adds 3 0 ∷ []) 3 ≡ None
@@ -58,11 +59,11 @@ pub record Rows : Type 0 where
   pub restarted : first_for 3 (three ++ adds 2 0 ∷ restarts 1 2 ∷ []) 4 ≡ Some 5
   pub spent : first_for 3 (three ++ adds 2 0 ∷ is_spent 2 ∷ []) 4 ≡ Some 5
   pub withdrawn : first_for 3 (three ++ adds 2 0 ∷ adds 2 1 ∷ withdrawal 2 ∷ []) 4 ≡ Some 6
-  -- one is restarted that had added to another relation only
+  -- a lower update is restarted that had added only to another relation
   pub elsewhere : first_for 3 (three ++ adds 2 1 ∷ restarts 1 2 ∷ []) 4 ≡ None
-  -- one is restarted again that showed nothing since
+  -- a lower update is restarted again, and has shown nothing since its last restart
   pub again : first_for 3 (three ++ adds 2 0 ∷ restarts 1 2 ∷ restarts 1 2 ∷ []) 5 ≡ None
   -- the update itself is restarted
   pub itself : first_for 3 (three ++ adds 1 1 ∷ restarts 1 3 ∷ []) 4 ≡ Some 5
-  -- the history is no longer than that
+  -- the history has fewer entries than `since`
   pub past : first_for 3 (three ++ adds 1 0 ∷ []) 9 ≡ None

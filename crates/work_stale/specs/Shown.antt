@@ -1,4 +1,4 @@
--- What the entries of a history tell of the writes that updates show.
+-- The writes that updates show, computed from the entries of a history.
 use Rattle.std.specs.Prelude.{ℕ, ◌==◌, Bool, false, if◌then◌else◌, List, [], ◌∷◌, ◌++◌, map, Some}
 use Rattle.def_machine.specs.Updates.{hides}
 use Rattle.def_machine.specs.Standings.{Standing, Ready, Held, Paused, Ended, Withdrawn}
@@ -47,11 +47,11 @@ shown_by i (WasDelivered e) = []
 shown_by i (WasAnswered e) = []
 shown_by i (WasWithdrawn e) = []
 
--- What update i shows after the entry, where it showed ws before.
+-- What update i shows after the entry, if it showed ws before.
 abbrev pub shown_after : ℕ → List Change → PlainEntry → List Change
 shown_after i ws e = if has_number (taken_in e) i then [] else ws ++ shown_by i e
 
--- What it shows after these entries.
+-- What update i shows after these entries, if it showed ws before.
 abbrev pub shown_from : ℕ → List Change → List PlainEntry → List Change
 shown_from i ws [] = ws
 shown_from i ws (e ∷ es) = shown_from i (shown_after i ws e) es

@@ -1,6 +1,6 @@
-//! Which entry of a history makes a step stale that was worked out at an earlier state.
+//! Which entry of a history makes a step stale that was planned at an earlier state.
 //!
-//! It is told by the entries alone: by the writes that they show, the updates that they restart, and what these had shown
+//! The entries alone decide it: the writes that they show, the updates that they restart, and what these updates had shown
 //! before. The definitions stand in `specs/`. The laws of `laws` and `rows` are functions whose contract is the statement and
 //! whose body is empty.
 #![tactic(auto)]

@@ -18,7 +18,7 @@ pub(crate) fn reader_of(cause: &Cause) -> u32
     }
 }
 
-/// The causes that the entry has.
+/// The causes in the entry.
 pub(crate) fn causes_in(entry: &Entry) -> &[Cause]
     ensures { map reader_in (map cause_of result.now) ≡ restarted_in (entry_of entry.now) }
 {
@@ -38,7 +38,7 @@ pub(crate) fn restarts(entry: &Entry, update: u32) -> bool
         .any(|cause| reader_of(cause) == update)
 }
 
-// Whether an attempt with this standing has ended so that it shows no write.
+// Whether an attempt with this standing has ended spent or refused, so that it shows no write.
 fn ends_hidden(standing: Standing) -> bool
     ensures { result ≡ ends_hidden (standing_of standing) }
 {

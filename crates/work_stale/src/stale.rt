@@ -13,8 +13,8 @@ use base_types::{MappingList, Write};
 use chase_query::Logged;
 use core_entries::Entry;
 
-/// The number of the first entry after so many by which a step of this update with these reads is stale: it wrote, or took away,
-/// in a relation that a read mentions and as a write of an update below, or it restarted the update. Entries are counted from 1.
+/// The number, from 1, of the first entry after the first `since` by which a step of the update with these reads is stale. Such
+/// an entry restarts the update; or it shows, or takes away, a write by a lower update in a relation that a read mentions.
 pub fn stale_by(
     mappings: &MappingList,
     entries: &[Entry],
@@ -37,7 +37,7 @@ pub fn stale_by(
     None
 }
 
-// Whether the entry, which comes after those before it, makes the step stale.
+// Whether the entry, which comes after `before`, makes the step stale.
 fn makes_stale(
     mappings: &MappingList,
     before: &[Entry],
@@ -53,7 +53,7 @@ fn makes_stale(
         || takes_below(mappings, before, entry, update, reads)
 }
 
-// Whether it shows a write, by an update below, of a relation that is read.
+// Whether the entry shows a write, by a lower update, in a relation that is read.
 fn adds_below(mappings: &MappingList, entry: &Entry, update: u32, reads: &[Logged]) -> bool
     ensures { result
         ≡ adds_below (mentioned_by mappings.now reads.now) update (entry_of entry.now) }
@@ -68,7 +68,7 @@ fn adds_below(mappings: &MappingList, entry: &Entry, update: u32, reads: &[Logge
     }
 }
 
-// Whether it takes such a write away.
+// Whether the entry takes away a write, by a lower update, in a relation that is read.
 fn takes_below(
     mappings: &MappingList,
     before: &[Entry],
@@ -83,7 +83,7 @@ fn takes_below(
         || restarts_below(mappings, before, entry, update, reads)
 }
 
-// Whether such a write goes with the entry's own update.
+// Whether such a write is lost because the entry's own update ends spent or refused, or is withdrawn.
 fn loses_below(
     mappings: &MappingList,
     before: &[Entry],
@@ -100,7 +100,7 @@ fn loses_below(
     }
 }
 
-// Whether one goes with an update that is restarted.
+// Whether such a write is lost because its update is restarted.
 fn restarts_below(
     mappings: &MappingList,
     before: &[Entry],
@@ -120,7 +120,7 @@ fn restarts_below(
     ))
 }
 
-// Whether the update `by` is below, and showed such a write.
+// Whether the update `by` is lower than `update`, and shows a write in a relation that is read.
 fn showed_below(
     mappings: &MappingList,
     before: &[Entry],
@@ -134,7 +134,7 @@ fn showed_below(
     by < update && showed(mappings, before, by, reads)
 }
 
-// Whether the update shows such a write after these entries: it is sought from the last of them back to the one that took the
+// Whether the update `by` shows such a write after these entries. They are searched from the last back to the one that took the
 // update's earlier writes away.
 fn showed(mappings: &MappingList, before: &[Entry], by: u32, reads: &[Logged]) -> bool
     ensures { result ≡ any_of (mentioned_by mappings.now reads.now)
@@ -152,7 +152,7 @@ fn showed(mappings: &MappingList, before: &[Entry], by: u32, reads: &[Logged]) -
     false
 }
 
-// Whether one of the writes is of a relation that is read.
+// Whether one of the writes is in a relation that is read.
 fn any_read(mappings: &MappingList, writes: &[Write], reads: &[Logged]) -> bool
     ensures { result ≡ any_of (mentioned_by mappings.now reads.now) (map change_of writes.now) }
 {
