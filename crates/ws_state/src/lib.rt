@@ -5,6 +5,7 @@
 #![tactic(auto)]
 
 mod active;
+mod compared;
 mod effects;
 mod folding;
 mod heads;
@@ -12,6 +13,7 @@ mod latest;
 mod made;
 mod opening;
 mod outcomes;
+mod parts;
 mod points;
 mod replays;
 mod running;

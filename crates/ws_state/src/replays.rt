@@ -3,11 +3,12 @@ ghost use Rattle.std.specs.Prelude.{◌≡◌, None, OnOk, IfOk};
 ghost use Rattle.ws_state.specs.Stands.{what_stands, what_stood, GoesOn};
 ghost use Rattle.ws_state.specs.Returns.{IsBackAt, TakesBack};
 
+use crate::compared::{Before, by_held, same_writes, status_in};
 use crate::latest::{Latest, keep, take_latest};
 use crate::states::{Event, HeldList, Said, State, Told};
 use crate::visible::{Visible, came_between, visible_of};
 use crate::worlds::{StandingList, Status, Waiting, WaitingList, World, renew, wait_no_more};
-use base_types::{List, MappingList, Memory, NumberList, TryCopy, TupleList, Write, WriteList};
+use base_types::{List, MappingList, Memory, NumberList, TryCopy, TupleList};
 use std::alloc::Global;
 use std::collections::BTreeMap;
 use std::mem;
@@ -334,48 +335,6 @@ fn first_waiting(alloc: Global, held: &HeldList) -> Result<WaitingList, Memory> 
     Ok(waiting)
 }
 
-fn status_in(statuses: &[Status], place: usize) -> Status {
-    statuses.get(place).copied().unwrap_or(Status::GivenUp)
-}
-
-// Updates that stand, and for each held update its place among them, if it stands.
-#[derive(Drop)]
-struct ByHeld<'a> {
-    order: &'a StandingList,
-    places: Vec<Option<usize>>,
-}
-
-// The updates in `order`; `count` is the number of held updates.
-fn by_held(alloc: Global, order: &StandingList, count: usize) -> Result<ByHeld<'_>, Memory> {
-    let mut places = Vec::new(alloc);
-    for _ in 0..count {
-        places.push(None)?;
-    }
-    for (place, standing) in order.as_slice().iter().enumerate() {
-        if let Some(one) = places.get_mut(standing.held) {
-            *one = Some(place);
-        }
-    }
-    Ok(ByHeld { order, places })
-}
-
-impl<'a> ByHeld<'a> {
-    // The writes of the update held at this place, if it stands.
-    fn writes(&self, held: usize) -> Option<&'a WriteList> {
-        let place = self.places.get(held).copied().unwrap_or(None)?;
-        let standing = self.order.get(place)?;
-        Some(&standing.writes)
-    }
-}
-
-// What stood before a replay.
-#[derive(Drop)]
-struct Before {
-    statuses: Vec<Status>,
-    visible: Visible,
-    order: StandingList,
-}
-
 fn place_in(said: &Said) -> usize {
     match said {
         Said::Update(place) => *place,
@@ -394,29 +353,4 @@ fn answers_to(said: &Said, place: usize) -> bool {
 
 fn is_among(numbers: &NumberList, number: u32) -> bool {
     numbers.as_slice().iter().any(|other| *other == number)
-}
-
-// Whether the update held at this place wrote the same before and after.
-fn same_writes(was: &ByHeld<'_>, is: &ByHeld<'_>, place: usize) -> bool {
-    match (was.writes(place), is.writes(place)) {
-        (Some(old), Some(new)) => same_list(old, new),
-        (None, None) => true,
-        _ => false,
-    }
-}
-
-fn same_list(old: &WriteList, new: &WriteList) -> bool {
-    if old.len() != new.len() {
-        return false;
-    }
-    let mut pairs = old.as_slice().iter().zip(new.as_slice());
-    pairs.all(|(old, new)| same_write(old, new))
-}
-
-fn same_write(old: &Write, new: &Write) -> bool {
-    match (old, new) {
-        (Write::Insert(s), Write::Insert(t)) => s == t,
-        (Write::Delete(s), Write::Delete(t)) => s == t,
-        _ => false,
-    }
 }
