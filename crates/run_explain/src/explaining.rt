@@ -30,8 +30,8 @@ pub struct Explained {
     pub explanation: Option<Explanation>,
 }
 
-/// The explanation of a tuple in the repository that the serial run of the session leaves; None exactly where it is not
-/// there. Its nulls have attempt 0. Refused only for want of memory.
+/// The explanation of a tuple in the repository that the serial run of the session leaves; None exactly where it is not there.
+/// Its nulls have attempt 0.
 pub fn explain(
     alloc: Global,
     session: &Session,
@@ -52,8 +52,7 @@ pub fn explain(
     Ok(explanation)
 }
 
-/// The run of a session over its base, which is handed over as a set of tuples, with the explanation of a tuple. Refused
-/// only for want of memory.
+/// The run of a session over its base, which is handed over as a set of tuples, with the explanation of a tuple.
 pub fn explain_over(
     alloc: Global,
     session: &Session,

@@ -35,8 +35,7 @@ pub struct NotedRun {
     pub notes: NoteList,
 }
 
-/// The serial run of a session over its base, which is handed over as a set of tuples, with its notes. Refused only for
-/// want of memory.
+/// The serial run of a session over its base, which is handed over as a set of tuples, with its notes.
 pub fn noted_serial(
     alloc: Global,
     session: &Session,

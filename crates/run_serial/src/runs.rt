@@ -38,8 +38,8 @@ pub fn mappings_of(session: &Session) -> Mappings<'_>
     Mappings::of(&session.mappings)
 }
 
-/// The serial run of a session: its updates taken whole, one after the other in the order of their numbers, up to the
-/// first that stops at a question. Refused only for want of memory.
+/// The serial run of a session: its updates taken whole, one after the other in the order of their numbers, up to the first that
+/// stops at a question.
 pub fn serial(alloc: Global, session: &Session, budget: Budget) -> Result<SessionResult, Memory>
     requires valid { IsSession (session_of session.now) }
     requires met { base_violation (session_of session.now) ≡ None }
@@ -49,8 +49,7 @@ pub fn serial(alloc: Global, session: &Session, budget: Budget) -> Result<Sessio
     serial_over(alloc, session, base, budget)
 }
 
-/// The serial run of a session over its base, which is handed over as a set of tuples (`base_of`). Refused only for want
-/// of memory.
+/// The serial run of a session over its base, which is handed over as a set of tuples (`base_of`).
 pub fn serial_over(
     alloc: Global,
     session: &Session,

@@ -32,8 +32,7 @@ pub struct Trailed {
     pub stop: Option<Stop>,
 }
 
-/// The trails of the serial run of a session over its base, which is handed over as a set of tuples (`base_of`). Refused
-/// only for want of memory.
+/// The trails of the serial run of a session over its base, which is handed over as a set of tuples (`base_of`).
 pub fn trails(
     alloc: Global,
     session: &Session,
