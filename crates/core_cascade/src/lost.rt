@@ -144,8 +144,8 @@ impl<'r> Lost<'r> {
         Ok(None)
     }
 
-    // The read of this number, that the mapping has no violation for an attempt with `made` own writes, if it mentions a relation of
-    // a lost write.
+    // The read of this number, that the mapping has no violation for an attempt with `made` own writes, if it mentions a
+    // relation of a lost write.
     fn reached_mapping(
         &self,
         alloc: Global,

@@ -15,14 +15,14 @@ use Rattle.set_versions.specs.Standing.{Kept}
 use Rattle.core_engine.specs.Follows.{Follows, ground_with}
 use Rattle.core_engine.specs.Kept.{IsKept}
 
--- Behind the queued updates stands one more: update n as it is when it is admitted, with no recorded answers.
+-- One more queued update stands after the others: update n as it is when it is admitted, with no recorded answers.
 pub record IsNew (n : ℕ) (op : Operation) (rs rs' : List QueuedUpdate) : Type 0 where
   pub last : QueuedUpdate
   pub longer : rs' ≡ rs ++ last ∷ []
   pub update : (ms : List Rule) (B : ℕ) → update_of ms B last ≡ admitted (caused_chase ms B) n (record { operation = op; answers = [] })
   pub stands : StandsAt n last
 
--- The admission of one more update leads from these parts to those, which are over that update too.
+-- The admission of one more update leads from these parts to those, which are also over that update.
 abbrev pub AdmitsTo : Operation → List QueuedUpdate → List Entry → List QueuedUpdate → List Entry → Type 0
 AdmitsTo op rs es rs' es' =
     (ms : List Rule) (s : Settings) (v : Kept) (B : ℕ) (D : List Fact) (requests : List Request) (later : List Operation) → IsKept (ground_with ms s B D requests later) v rs (map entry_of es)

@@ -11,7 +11,7 @@ use Rattle.lang_session.specs.Meanings.{request_of, update_of as session_update_
 use Rattle.lang_session.specs.declared.sessions.SessionUpdate.{SessionUpdate}
 use Rattle.def_steps.specs.Chase.{caused_chase}
 
--- These updates, just admitted; the first of them has number n.
+-- These updates when they have just been admitted; the first of them has number n.
 abbrev pub admitted_from : (M : Machine) → ℕ → List (Submission M) → List (Update M)
 admitted_from M n [] = []
 admitted_from M n (x ∷ xs) = admitted M n x ∷ admitted_from M (suc n) xs
@@ -20,6 +20,6 @@ admitted_from M n (x ∷ xs) = admitted M n x ∷ admitted_from M (suc n) xs
 abbrev pub handed_in : (ms : List Rule) (B : ℕ) → List SessionUpdate → List (Submission (caused_chase ms B))
 handed_in ms B us = submissions ms B (map request_of (map session_update_of us))
 
--- The queued updates are those of the session's updates, just admitted.
+-- The queued updates stand for the session's updates when these have just been admitted.
 abbrev pub AreAdmitted : List SessionUpdate → List QueuedUpdate → Type 0
 AreAdmitted us rs = (ms : List Rule) (B : ℕ) → updates_of ms B rs ≡ admitted_from (caused_chase ms B) 1 (handed_in ms B us)

@@ -36,12 +36,12 @@ in_order xs = flat_map conflict_in xs ++ flat_map dependence_in xs
 abbrev pub trail_of : QueuedUpdate → List Change
 trail_of r = trail (caused_chase [] 0) (update_of [] 0 r)
 
--- Each stands between two steps.
+-- Each of them stands between two steps.
 abbrev pub AllBetween : List QueuedUpdate → Type 0
 AllBetween [] = Unit {0}
 AllBetween (r ∷ rs) = IsBetween r.program × AllBetween rs
 
--- The trail of the update is taken back, where it has a cause.
+-- If the update has a cause, its trail is taken back.
 abbrev pub ClearedIf : Bool → QueuedUpdate → Kept → Kept → Type 0
 ClearedIf true r old new = Retracted r.program.attempt.number (trail_of r) old new
 ClearedIf false r old new = old ≡ new

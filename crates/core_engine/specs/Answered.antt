@@ -18,7 +18,7 @@ use Rattle.set_versions.specs.Standing.{Kept}
 use Rattle.core_engine.specs.Follows.{Follows, ground_with}
 use Rattle.core_engine.specs.Kept.{IsKept}
 
--- The entry is that of this answer to the update at the place.
+-- The entry tells this answer to the update at the place.
 abbrev pub TellsAnswer : Settings → ℕ → Choice → List QueuedUpdate → Entry → Type 0
 TellsAnswer s k c rs e =
     (ms : List Rule) (B : ℕ) (r : QueuedUpdate) → slice_get rs k ≡ Some r
@@ -28,7 +28,7 @@ TellsAnswer s k c rs e =
       standing = standing (caused_chase ms B) s (committed (caused_chase ms B) (updates_of ms B rs)) (suc k) (update_of ms B r);
     })
 
--- This answer to update k + 1 leads from these parts to those, where it is paused and the choice fits.
+-- If update k + 1 is paused and the choice fits, this answer leads from these parts to those.
 abbrev pub AnswersTo : Settings → ℕ → Choice → List QueuedUpdate → List Entry → List QueuedUpdate → List Entry → Type 0
 AnswersTo s k c rs es rs' es' =
     (ms : List Rule) (v : Kept) (B : ℕ) (D : List Fact) (requests : List Request) (later : List Operation) → IsKept (ground_with ms s B D requests later) v rs (map entry_of es)

@@ -15,7 +15,7 @@ pub record HasTurnedOnce (old new : State) : Type 0 where
   pub history : turned old.over old.history ≡ Some new.history
   pub less : suc (work_after old.over new.history) ≤ work_after old.over old.history
 
--- It is quiet, and nothing was done.
+-- The core is quiet, and nothing was done.
 pub record HasRested (old new : State) : Type 0 where
   pub quiet : is_quiet_at old ≡ true
   pub same : new ≡ old

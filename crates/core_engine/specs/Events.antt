@@ -10,19 +10,19 @@ use Rattle.core_engine.specs.declared.refusals.StepRefusal.TheVariants as step
 use Rattle.core_engine.specs.declared.refusals.DeliverRefusal.{DeliverRefusal}
 use Rattle.core_engine.specs.declared.refusals.DeliverRefusal.TheVariants as deliver
 
--- The event was allowed: the history has its entry behind the others, over the same ones.
+-- The event was allowed: the history has its entry after the others, and is over the same as before.
 pub record HasMade (old : State) (e : Event (machine old.over)) (new : State) : Type 0 where
   pub grows : grown old.over old.history e ≡ Some new.history
   pub over : new.over ≡ old.over
 
--- What is answered to a step of an update with this standing.
+-- The answer to a step of an update with this standing.
 abbrev pub AnswersStep : Option Standing → Result ℕ StepRefusal → Type 0
 AnswersStep s (Ok n) = s ≡ Some Ready
 AnswersStep s (Err step.NoSuchUpdate) = s ≡ None
 AnswersStep s (Err (step.NotReady t)) = (s ≡ Some (standing_of t)) × (is_ready (standing_of t) ≡ false)
 AnswersStep s (Err step.Memory) = s ≡ Some Ready
 
--- What is answered to a delivery to an update with this standing, where an answer waits for it or none does.
+-- The answer to a delivery to an update with this standing; the flag says whether an answer waits for it.
 abbrev pub AnswersDelivery : Option Standing → Bool → Result ℕ DeliverRefusal → Type 0
 AnswersDelivery s waits (Ok n) = (s ≡ Some (Paused Missing)) × (waits ≡ true)
 AnswersDelivery s waits (Err deliver.NoSuchUpdate) = s ≡ None

@@ -34,7 +34,7 @@ use Rattle.core_engine.specs.Planned.{PlanMeant, IsSomeThat, IsStepAmong}
 use Rattle.core_engine.specs.Steps.{IsStepLeft}
 use Rattle.core_engine.specs.declared.stepping.Prepared.{Prepared}
 
--- The event was allowed after the entries; these parts are those of a core with its entry behind them.
+-- The event was allowed after the entries; these parts are those of a core with its entry after them.
 pub record Follows (g : Ground) (e : Event (machine g)) (H : List PlainEntry) (v : Kept) (rs : List QueuedUpdate) (H' : List PlainEntry) : Type 0 where
   pub grows : grown g H e ≡ Some H'
   pub kept : IsKept g v rs H'
@@ -60,19 +60,19 @@ pub record IsPlanFor (r : QueuedUpdate) (plan : Plan) : Type 0 where
   pub below : List Fact
   pub planned : IsPlanOf rules budget below r plan
 
--- There is a queued update at the place, which has room for the reads of the plan, of whose step that is.
+-- There is a queued update at the place that has room for the reads of the plan.
 abbrev pub HasRoomAt : ℕ → Plan → List QueuedUpdate → Type 0
 HasRoomAt k plan rs = IsSomeThat (λ (r : QueuedUpdate). HasRoomFor plan r) (slice_get rs k)
 
 abbrev pub IsPlanAt : ℕ → Plan → List QueuedUpdate → Type 0
 IsPlanAt k plan rs = IsSomeThat (λ (r : QueuedUpdate). IsPlanFor r plan) (slice_get rs k)
 
--- There is one that has room for one more answer.
+-- There is a queued update at the place that has room for one more answer.
 abbrev pub HasAnswerRoomAt : ℕ → List QueuedUpdate → Type 0
 HasAnswerRoomAt k rs = IsSomeThat (λ (r : QueuedUpdate). HasRoom r) (slice_get rs k)
 
--- What was prepared, with the second versions in place of the first, is what the step of the plan leaves, in any history of the
--- queue.
+-- With the second versions in place of the first, the prepared parts are what the step of the plan leaves, in any history of
+-- the queue.
 abbrev pub IsPreparedAt : List Rule → Settings → ℕ → Plan → Kept → List QueuedUpdate → Kept → Prepared → Type 0
 IsPreparedAt ms s k plan v rs v' p =
     (B : ℕ) (requests : List Request) (later : List Operation) (D : List Fact) (H : List PlainEntry) (r : QueuedUpdate) → IsKept (ground_with ms s B D requests later) v rs H → slice_get rs k ≡ Some r
@@ -80,25 +80,25 @@ IsPreparedAt ms s k plan v rs v' p =
     → IsPlanOf ms B (below (caused_chase ms B) D (updates_of ms B rs) k) r plan
     → IsStepLeft ms B s (committed (caused_chase ms B) (updates_of ms B rs)) (suc k) D (take k (updates_of ms B rs)) (update_of ms B r) (drop (suc k) (updates_of ms B rs)) v' p
 
--- Those that were committed before are so still, as far as they stand below the place.
+-- The updates that were committed before still are, as far as they stand below the place.
 abbrev pub KeepsCommitted : ℕ → List QueuedUpdate → List QueuedUpdate → Type 0
 KeepsCommitted k rs rs' = (c : ℕ) → c ≤ k → CommitsAtLeast rs c → CommitsAtLeast rs' c
 
--- Those that had read nothing before still have not, as far as they stand above the place.
+-- The updates that had read nothing before still have not, as far as they stand above the place.
 abbrev pub KeepsUnread : ℕ → List QueuedUpdate → List QueuedUpdate → Type 0
 KeepsUnread k rs rs' = (n : ℕ) → suc k ≤ n → ReadsAtMost rs n → ReadsAtMost rs' n
 
--- Those that were unready before are so still, as far as they stand below the place.
+-- The updates that were unready before still are, as far as they stand below the place.
 abbrev pub KeepsUnready : ℕ → List QueuedUpdate → List QueuedUpdate → Type 0
 KeepsUnready k rs rs' = (n : ℕ) → n ≤ k → UnreadyUpTo rs n → UnreadyUpTo rs' n
 
--- The update at the place has made the step of the plan, and those above it have restarted for which there is an attempt.
+-- The update at the place has made the step of the plan, and the updates above for which there is an attempt have restarted.
 abbrev pub IsInstalled : ℕ → Plan → List (Option ProgramState) → List QueuedUpdate → List QueuedUpdate → Type 0
 IsInstalled k plan fresh rs rs' =
     (ms : List Rule) (B : ℕ) (D : List Fact) (r : QueuedUpdate) (xs : List (Option (Cause (caused_chase ms B)))) → slice_get rs k ≡ Some r → IsPlanOf ms B D r plan → map is_some xs ≡ map is_some fresh
     → updates_of ms B rs' ≡ take k (updates_of ms B rs) ++ stepped (caused_chase ms B) D (update_of ms B r) ∷ restart (caused_chase ms B) (suc (suc k)) xs (drop (suc k) (updates_of ms B rs))
 
--- The entry is that of a step of the update at the place, by this attempt, with these writes and causes.
+-- The entry tells a step of the update at the place, by this attempt, with these writes and causes.
 abbrev pub TellsStep : Settings → ℕ → ℕ → Listed Write → Listed CauseOfProgram → List QueuedUpdate → Entry → Type 0
 TellsStep s k attempt writes causes rs e =
     (ms : List Rule) (B : ℕ) (r : QueuedUpdate) → slice_get rs k ≡ Some r
@@ -111,13 +111,13 @@ TellsStep s k attempt writes causes rs e =
       committed = committed (caused_chase ms B) (updates_of ms B rs);
     })
 
--- The entry is that of a delivery to the update at the place.
+-- The entry tells a delivery to the update at the place.
 abbrev pub TellsDelivery : Settings → ℕ → List QueuedUpdate → Entry → Type 0
 TellsDelivery s k rs e =
     (ms : List Rule) (B : ℕ) (r : QueuedUpdate) → slice_get rs k ≡ Some r
     → entry_of e ≡ WasDelivered (record { update = suc k; standing = standing (caused_chase ms B) s (committed (caused_chase ms B) (updates_of ms B rs)) (suc k) (update_of ms B r) })
 
--- The step of update k + 1 leads from these parts to those, where it is ready and the plan is that step.
+-- If update k + 1 is ready and the plan is its next step, the step leads from these parts to those.
 abbrev pub StepsTo : List Rule → Settings → ℕ → Plan → Kept → List QueuedUpdate → List Entry → Kept → List QueuedUpdate → List Entry → Type 0
 StepsTo ms s k plan v rs es v' rs' es' =
     (B : ℕ) (D : List Fact) (requests : List Request) (later : List Operation) → IsKept (ground_with ms s B D requests later) v rs (map entry_of es)
@@ -125,7 +125,7 @@ StepsTo ms s k plan v rs es v' rs' es' =
     → IsStepAmong ms B D (updates_of ms B rs) (suc k) (meant_of (suc k) plan)
     → Follows (ground_with ms s B D requests later) (Steps (suc k)) (map entry_of es) v' rs' (map entry_of es')
 
--- The delivery to update k + 1 leads from these parts to those, where it is deliverable.
+-- If update k + 1 is deliverable, the delivery to it leads from these parts to those.
 abbrev pub DeliversTo : Settings → ℕ → List QueuedUpdate → List Entry → List QueuedUpdate → List Entry → Type 0
 DeliversTo s k rs es rs' es' =
     (ms : List Rule) (v : Kept) (B : ℕ) (D : List Fact) (requests : List Request) (later : List Operation) → IsKept (ground_with ms s B D requests later) v rs (map entry_of es)

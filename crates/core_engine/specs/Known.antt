@@ -10,22 +10,22 @@ use Rattle.set_versions.specs.Standing.{Kept, seen}
 use Rattle.core_engine.specs.States.{numbered_at}
 use Rattle.core_engine.specs.declared.known.Known.{Known}
 
--- Over D the first writes of its attempt, so many as were made when the marks were, have caused no violation of the mappings with a
--- mark; there are so many.
+-- The attempt has made at least k.made writes. Over D the first k.made of them have caused no violation of the mappings that
+-- have a mark.
 pub record AreMarksOver (ms : List Rule) (D : List Fact) (r : QueuedUpdate) (k : Known) : Type 0 where
   pub few : k.made ≤ length r.program.attempt.own
   pub settled : HasSettledBy k.made ms D r.program.attempt k.marks
 
--- They are the queued update's marks, over what its update sees.
+-- The marks are the queued update's, over what its update sees.
 pub record AreMarksOf (ms : List Rule) (v : Kept) (r : QueuedUpdate) (k : Known) : Type 0 where
   pub update : k.update ≡ r.program.attempt.number
   pub marks : AreMarksOver ms (seen r.program.attempt.number v) r k
 
--- They are marks of the update of their number, where there is one, over what it sees.
+-- The marks are right for the update of their number, if there is one, over what it sees.
 abbrev pub IsKnown : List Rule → Kept → List QueuedUpdate → Known → Type 0
 IsKnown ms v rs k = (r : QueuedUpdate) → numbered_at rs k.update ≡ Some r → AreMarksOver ms (seen k.update v) r k
 
--- Its attempt has made more writes, or as many.
+-- The attempt of the queued update has as many writes as before, or more.
 pub record HasGrown (r r' : QueuedUpdate) : Type 0 where
   pub operation : r'.program.attempt.operation ≡ r.program.attempt.operation
   pub own : (more : List Change) × (r'.program.attempt.own ≡ r.program.attempt.own ++ more)

@@ -1,4 +1,4 @@
--- What is answered to the calls that people make while updates go on.
+-- The answers to the calls that people make while updates go on.
 use Rattle.std.specs.Prelude.{◌≡◌, ◌&&◌, ◌≤◌, ◌<◌, ℕ, suc, Bool, true, false, not, nat_lt, List, length, Option, Some, None, is_some, Result, Ok, Err}
 use Rattle.core_entries.specs.Meanings.{standing_of}
 use Rattle.def_history.specs.Cores.{grown, machine}
@@ -20,7 +20,7 @@ use Rattle.core_engine.specs.declared.refusals.WithdrawRefusal.TheVariants as wi
 
 -- ---- answers
 
--- It is paused.
+-- The standing is that of a paused update.
 abbrev pub is_paused_in : Option Standing → Bool
 is_paused_in None = false
 is_paused_in (Some s) = is_paused s
@@ -29,21 +29,21 @@ is_paused_in (Some s) = is_paused s
 abbrev pub fits_at : State → ℕ → Choice → Bool
 fits_at s n c = fits_question (machine s.over) (question_at s n) c
 
--- Why an answer to an update with this standing was refused, where the choice fits its question or does not.
+-- Why an answer to an update with this standing was refused; the flag says whether the choice fits its question.
 abbrev pub RefusesAnswer : Option Standing → Bool → AnswerRefusal → Type 0
 RefusesAnswer s fits answer.NoSuchUpdate = s ≡ None
 RefusesAnswer s fits (answer.NotPaused t) = (s ≡ Some (standing_of t)) × (is_paused (standing_of t) ≡ false)
 RefusesAnswer s fits answer.Misfit = (is_paused_in s ≡ true) × (fits ≡ false)
 RefusesAnswer s fits answer.Memory = (is_paused_in s ≡ true) × (fits ≡ true)
 
--- What is answered to it.
+-- The answer to the call that answers an update with this standing.
 abbrev pub AnswersAnswer : Option Standing → Bool → Result ℕ (AnswerRefusal × ChoiceOfProgram) → Type 0
 AnswersAnswer s fits (Ok n) = (is_paused_in s ≡ true) × (fits ≡ true)
 AnswersAnswer s fits (Err refused) = RefusesAnswer s fits refused.0
 
 -- ---- withdrawals
 
--- It is that of a withdrawn update.
+-- The standing is that of a withdrawn update.
 abbrev pub is_withdrawn : Standing → Bool
 is_withdrawn Ready = false
 is_withdrawn (Held c) = false
@@ -51,12 +51,12 @@ is_withdrawn (Paused l) = false
 is_withdrawn (Ended o) = false
 is_withdrawn Withdrawn = true
 
--- Update n stands so, and is neither committed nor withdrawn, where c updates are committed.
+-- There is an update n with this standing, and it is neither committed nor withdrawn; c updates are committed.
 abbrev pub is_live_in : Option Standing → ℕ → ℕ → Bool
 is_live_in None c n = false
 is_live_in (Some s) c n = nat_lt c n && not (is_withdrawn s)
 
--- What is answered to the withdrawal of update n with this standing, where c updates are committed.
+-- The answer to the withdrawal of update n with this standing, if c updates are committed.
 abbrev pub AnswersWithdrawal : Option Standing → ℕ → ℕ → Result ℕ WithdrawRefusal → Type 0
 AnswersWithdrawal s c n (Ok m) = is_live_in s c n ≡ true
 AnswersWithdrawal s c n (Err withdraw.NoSuchUpdate) = s ≡ None
@@ -66,21 +66,21 @@ AnswersWithdrawal s c n (Err withdraw.Memory) = is_live_in s c n ≡ true
 
 -- ---- admissions
 
--- The operation may stand behind the updates of the state, over these relations.
+-- The operation may stand after the updates of the state, over these relations.
 abbrev pub admits_at : State → List RelationSchema → Operation → Bool
 admits_at s relations op = admits relations (length (updates_at s)) op
 
--- One more update was handed in and admitted: the history is over it too, and has its entry behind the others.
+-- One more update was handed in and admitted: the history is over it too, and has its entry after the others.
 pub record HasAdmitted (old : State) (op : Operation) (new : State) : Type 0 where
   pub over : new.over ≡ handed old.over op
   pub grows : grown (handed old.over op) old.history Admits ≡ Some new.history
 
--- Why one more update was refused, where there are so many.
+-- Why one more update was refused, if there are n updates.
 abbrev pub RefusesAdmission : ℕ → AdmitRefusal → Type 0
 RefusesAdmission n admit.Full = 1000 ≤ n
 RefusesAdmission n admit.Memory = n < 1000
 
--- What is answered to it.
+-- The answer to the admission of one more update, if there are n updates.
 abbrev pub AnswersAdmission : ℕ → Result ℕ (AdmitRefusal × Update) → Type 0
 AnswersAdmission n (Ok number) = (number ≡ suc n) × (n < 1000)
 AnswersAdmission n (Err refused) = RefusesAdmission n refused.0

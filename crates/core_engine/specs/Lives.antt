@@ -12,7 +12,7 @@ use Rattle.core_engine.specs.Events.{HasMade}
 use Rattle.core_engine.specs.LiveCalls.{HasAdmitted, admits_at}
 use Rattle.core_engine.specs.States.{State, opened}
 
--- One more update was handed in and admitted, which these relations admit behind the updates that were there.
+-- One more update was handed in and admitted, which these relations admit after the updates that were there.
 pub record HasTaken (relations : List RelationSchema) (old new : State) : Type 0 where
   pub operation : Operation
   pub fits : admits_at old relations operation ≡ true
@@ -28,8 +28,8 @@ abbrev pub HasLived : List RelationSchema → ℕ → State → State → Type 0
 HasLived relations zero old new = old ≡ new
 HasLived relations (suc n) old new = (mid : State) × HasChanged relations old mid × HasLived relations n mid new
 
--- A core over a session that passed its checks, whose base violates no mapping, and to which only updates were admitted
--- later that the session's own relations admit: what it commits is serial.
+-- A core over a session that passed its checks, and whose base violates no mapping. If the session's own relations admit each
+-- update that was admitted later, what the core commits is serial.
 abbrev pub LiveCoresAreSerial : Type 0
 LiveCoresAreSerial =
     (s : SessionData) (budget : ℕ) (c : Settings) (n : ℕ) (core : State) → IsSession s → base_violation s ≡ None → 1 ≤ budget

@@ -1,4 +1,4 @@
--- The step that a plan is of.
+-- The step that a plan stands for.
 use Rattle.std.specs.Prelude.{◌≡◌, ℕ, zero, suc, List, Option, Some, None, slice_get}
 use Rattle.def_machine.specs.Updates.{Update, below}
 use Rattle.def_machine.specs.Standings.{next_answer}
@@ -16,21 +16,21 @@ pub record PlanMeant : Type 0 where
   pub program : ProgramState
   pub reads : List Read
 
--- It is the next step of this update over D.
+-- The plan is the next step of this update over D.
 pub record IsStepOver (ms : List Rule) (B : ℕ) (D : List Fact) (u : Update (caused_chase ms B)) (p : PlanMeant) : Type 0 where
   pub program : p.program ≡ at_rest (next_attempt ms B D u.state (next_answer (caused_chase ms B) u.answers u.state))
   pub reads : p.reads ≡ next_reads ms D u.state (next_answer (caused_chase ms B) u.answers u.state)
 
--- There is a value, and it meets this.
+-- There is a value, and the condition holds of it.
 abbrev pub IsSomeThat : {A : Type 0} → (A → Type 0) → Option A → Type 0
 IsSomeThat P None = ⊥
 IsSomeThat P (Some a) = P a
 
--- It is the next step of the update of this number over what lies below that.
+-- The plan is the next step of the update of this number over what lies below that update.
 abbrev pub IsStepAmong : (ms : List Rule) (B : ℕ) → List Fact → List (Update (caused_chase ms B)) → ℕ → PlanMeant → Type 0
 IsStepAmong ms B D us zero p = ⊥
 IsStepAmong ms B D us (suc k) p = IsSomeThat (λ u. IsStepOver ms B (below (caused_chase ms B) D us k) u p) (slice_get us k)
 
--- It is the next step of its update at the state.
+-- The plan is the next step of its update at the state.
 abbrev pub IsStepAt : State → PlanMeant → Type 0
 IsStepAt s p = IsStepAmong s.over.rules s.over.budget s.over.base (updates_at s) p.update p

@@ -1,4 +1,4 @@
--- What a snapshot is of: the step that it plans.
+-- The step that a snapshot plans.
 use Rattle.std.specs.Prelude.{◌≡◌, ◌<◌, ◌+◌, ◌^◌, suc}
 use Rattle.std.specs.Option.{option_map}
 use Rattle.base_types.specs.Meanings.{choice_of}
@@ -9,7 +9,7 @@ use Rattle.set_versions.specs.Standing.{seen}
 use Rattle.core_engine.specs.Planned.{PlanMeant}
 use Rattle.core_engine.specs.declared.plans.Snapshot.TheInside.{Inside}
 
--- The next step of its program over what the update sees, with the answer where it is at a question.
+-- The next step of its program over what the update sees, with the answer if it is at a question.
 abbrev pub planned_by : Inside → PlanMeant
 planned_by v =
     record {
@@ -18,8 +18,8 @@ planned_by v =
       reads = next_reads v.mappings (seen v.update v.versions) v.program.attempt (option_map choice_of v.answer);
     }
 
--- Its program can make a step with the answer, the versions have the writes of the attempt, and these have caused no
--- violation of the mappings that are settled.
+-- Its program can make a step with the answer. The versions have the writes of the attempt, and these have caused no violation
+-- of the mappings that are settled.
 pub record CanStep (v : Inside) : Type 0 where
   pub wanted : WantsStep (wish v.program) (option_map choice_of v.answer)
   pub left : v.program.attempt.steps < v.budget

@@ -1,4 +1,4 @@
--- What a core is to its callers, and what it tells of its updates.
+-- What a core is to its callers, and what it says of its updates.
 use Rattle.std.specs.Prelude.{◌&&◌, ℕ, zero, suc, not, Bool, false, List, [], ◌∷◌, Option, None, option_map, option_and_then, unwrap_or, slice_get}
 use Rattle.def_machine.specs.Updates.{Update, Settings, committed}
 use Rattle.def_machine.specs.Standings.{Standing, standing, question_of, is_nil}
@@ -17,12 +17,12 @@ pub record State : Type 0 where
   pub over : Ground
   pub history : List PlainEntry
 
--- What the history of a session is over, with so many steps for each attempt and these settings.
+-- What the history of a session is over, with this budget of steps for each attempt and these settings.
 abbrev pub ground_of : SessionData → ℕ → Settings → Ground
 ground_of s budget c =
     record { rules = rules_of s.mappings; budget = budget; settings = c; base = s.base; requests = requests_in s; later = [] }
 
--- The entries of admissions, so many of them, the first with number n.
+-- The entries of k admissions, the first with number n.
 abbrev pub admissions_from : ℕ → ℕ → List PlainEntry
 admissions_from n zero = []
 admissions_from n (suc k) = WasAdmitted n ∷ admissions_from (suc n) k
@@ -35,7 +35,7 @@ opened s budget c count = record { over = ground_of s budget c; history = admiss
 abbrev pub updates_at : (s : State) → List (Update (machine s.over))
 updates_at s = updates_after s.over s.history
 
--- The item of this number, counted from 1, where there is one.
+-- The item of this number, counted from 1, if there is one.
 abbrev pub numbered_at : {A : Type 0} → List A → ℕ → Option A
 numbered_at xs zero = None
 numbered_at xs (suc k) = slice_get xs k
@@ -44,15 +44,15 @@ numbered_at xs (suc k) = slice_get xs k
 abbrev pub committed_at : State → ℕ
 committed_at s = committed (machine s.over) (updates_at s)
 
--- The standing of the update of this number, where there is one.
+-- The standing of the update of this number, if there is one.
 abbrev pub standing_at : State → ℕ → Option Standing
 standing_at s n = option_map (standing (machine s.over) s.over.settings (committed_at s) n) (numbered_at (updates_at s) n)
 
--- The question at which it is paused, if it is.
+-- The question of the update of this number, if it is paused.
 abbrev pub question_at : State → ℕ → Option Question
 question_at s n = option_and_then (question_of (machine s.over) s.over.settings (committed_at s) n) (numbered_at (updates_at s) n)
 
--- An answer is recorded for it that was not delivered yet.
+-- An answer is recorded for the update of this number that was not delivered yet.
 abbrev pub has_waiting : State → ℕ → Bool
 has_waiting s n = unwrap_or (option_map (λ u. not (is_nil u.inbox)) (numbered_at (updates_at s) n)) false
 
@@ -67,7 +67,7 @@ lowest_deliverable_at s = standings.lowest_deliverable (machine s.over) s.over.s
 abbrev pub next_deliverable_at : State → Option ℕ
 next_deliverable_at s = only (suc (committed_at s)) (lowest_deliverable_at s)
 
--- Nothing is ready, and nothing deliverable.
+-- Nothing is ready, and nothing is deliverable.
 abbrev pub is_quiet_at : State → Bool
 is_quiet_at s = standings.is_quiet (machine s.over) s.over.settings (updates_at s)
 

@@ -14,11 +14,11 @@ use Rattle.def_steps.specs.Chase.{caused_chase}
 use Rattle.set_versions.specs.Standing.{Kept, seen}
 use Rattle.core_engine.specs.Planned.{PlanMeant}
 
--- The queued update at the place, if there is one, meets this.
+-- If there is a queued update at the place, the condition holds of it.
 abbrev pub AtPlace : ℕ → List QueuedUpdate → (QueuedUpdate → Type 0) → Type 0
 AtPlace k rs P = (r : QueuedUpdate) → slice_get rs k ≡ Some r → P r
 
--- It is ready, beside some number of committed updates.
+-- The queued update is ready, with some settings and some number of committed updates.
 pub record IsReadySomewhere (r : QueuedUpdate) : Type 0 where
   pub rules : List Rule
   pub budget : ℕ
@@ -27,14 +27,13 @@ pub record IsReadySomewhere (r : QueuedUpdate) : Type 0 where
   pub number : ℕ
   pub ready : is_ready (standing (caused_chase rules budget) settings committed number (update_of rules budget r)) ≡ true
 
--- The versions have the writes of its attempt, whose reads are valid over what it sees; and its number is not the last that
--- there is.
+-- The versions have the writes of its attempt, whose reads are valid over what it sees; and its number is not the last one.
 pub record IsHeldBy (ms : List Rule) (v : Kept) (r : QueuedUpdate) : Type 0 where
   pub applied : seen (suc r.program.attempt.number) v ≡ apply (seen r.program.attempt.number v) r.program.attempt.own
   pub few : r.program.attempt.number + 1 < 2 ^ 32
   pub valid : AreValidOver ms (seen r.program.attempt.number v) r.program.attempt (reads_in r.log.items)
 
--- It plans the next step of the queued update's attempt over what its update sees.
+-- The snapshot plans the next step of the queued update's attempt over what its update sees.
 pub record IsSnapshotOf (ms : List Rule) (B : ℕ) (v : Kept) (r : QueuedUpdate) (p : PlanMeant) : Type 0 where
   pub update : p.update ≡ r.program.attempt.number
   pub program : p.program ≡ at_rest (next_attempt ms B (seen r.program.attempt.number v) r.program.attempt (next_answer (caused_chase ms B) (map choice_of r.answers.items) r.program.attempt))

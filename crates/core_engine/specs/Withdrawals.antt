@@ -26,18 +26,20 @@ use Rattle.core_engine.specs.Steps.{IsFound, RanAbove}
 use Rattle.core_engine.specs.declared.aftermaths.Aftermath.{Aftermath}
 
 module _ (ms : List Rule) (B : ℕ) where
-  -- What an event leaves that makes w of update j above the lower ones, which stand over E, for these causes: with these versions.
+  -- What an event leaves with these versions: it makes w of update j above the lower ones, which stand over E, for these
+  -- causes.
   pub record IsLeft (causes : List (Cause (caused_chase ms B))) (E : List Fact) (lower : List (Update (caused_chase ms B))) (w : Update (caused_chase ms B)) (j : ℕ) (upper : List (Update (caused_chase ms B))) (v : Kept) (left : Aftermath) : Type 0 where
     pub told : map (cause_kept ms B) (map cause_of left.causes.items) ≡ causes
     pub restarts : (xs : List (Option (Cause (caused_chase ms B)))) → map is_some xs ≡ map is_some left.fresh.items
         → restart (caused_chase ms B) (suc j) xs upper ≡ restarted (caused_chase ms B) (readers causes) (suc j) upper
     pub versions : AreVersions ms B E (lower ++ w ∷ restarted (caused_chase ms B) (readers causes) (suc j) upper) v
 
-  -- What the withdrawal of update j leaves, where c updates are committed.
+  -- What the withdrawal of update j leaves, if c updates are committed.
   abbrev pub IsLossLeft : Settings → ℕ → ℕ → List Fact → List (Update (caused_chase ms B)) → Update (caused_chase ms B) → List (Update (caused_chase ms B)) → Kept → Aftermath → Type 0
   IsLossLeft s c j E lower u upper v left = IsLeft (causes_of_loss (caused_chase ms B) s.deps c j (laid ms B E lower) u upper) E lower (withdrawn_now (caused_chase ms B) u) j upper v left
 
--- In any history of these mappings where the update stands above the lower ones: this was found where it loses its trail.
+-- In any history of these mappings in which the update stands above the lower ones: these causes were found when it loses its
+-- trail.
 abbrev pub WereLost : List Rule → Settings → ℕ → Kept → QueuedUpdate → List QueuedUpdate → List (Option CauseOfProgram) → Type 0
 WereLost ms s c v r upper found =
     (B : ℕ) (E : List Fact) (lower : List (Update (caused_chase ms B))) → 1 ≤ B → r.program.attempt.number ≡ suc (length lower)
@@ -45,7 +47,7 @@ WereLost ms s c v r upper found =
     → AreVersions ms B E (lower ++ update_of ms B r ∷ updates_of ms B upper) v
     → IsFound ms B (causes_of_loss (caused_chase ms B) s.deps c (suc (length lower)) (laid ms B E lower) (update_of ms B r) (updates_of ms B upper)) (suc (suc (length lower))) (updates_of ms B upper) found
 
--- In any such history: what was prepared, with the second versions in place of the first, is what its withdrawal leaves.
+-- In any such history: with the second versions in place of the first, the prepared parts are what its withdrawal leaves.
 abbrev pub IsLossPrepared : List Rule → Settings → ℕ → Kept → QueuedUpdate → List QueuedUpdate → Kept → Aftermath → Type 0
 IsLossPrepared ms s c v r upper v' left =
     (B : ℕ) (E : List Fact) (lower : List (Update (caused_chase ms B))) → 1 ≤ B → r.program.attempt.number ≡ suc (length lower)
@@ -53,25 +55,25 @@ IsLossPrepared ms s c v r upper v' left =
     → AreVersions ms B E (lower ++ update_of ms B r ∷ updates_of ms B upper) v
     → IsLossLeft ms B s c (suc (length lower)) E lower (update_of ms B r) (updates_of ms B upper) v' left
 
--- What was prepared, with the second versions in place of the first, is what the withdrawal of update k + 1 leaves, in any history
--- of the queue.
+-- With the second versions in place of the first, the prepared parts are what the withdrawal of update k + 1 leaves, in any
+-- history of the queue.
 abbrev pub IsLossPreparedAt : List Rule → Settings → ℕ → Kept → List QueuedUpdate → Kept → Aftermath → Type 0
 IsLossPreparedAt ms s k v rs v' left =
     (B : ℕ) (requests : List Request) (later : List Operation) (D : List Fact) (H : List PlainEntry) (r : QueuedUpdate) → IsKept (ground_with ms s B D requests later) v rs H → slice_get rs k ≡ Some r
     → IsLossLeft ms B s (committed (caused_chase ms B) (updates_of ms B rs)) (suc k) D (take k (updates_of ms B rs)) (update_of ms B r) (drop (suc k) (updates_of ms B rs)) v' left
 
--- The update at the place is withdrawn, and those above it have restarted for which there is an attempt.
+-- The update at the place is withdrawn, and the updates above for which there is an attempt have restarted.
 abbrev pub IsRemoved : ℕ → List (Option ProgramState) → List QueuedUpdate → List QueuedUpdate → Type 0
 IsRemoved k fresh rs rs' =
     (ms : List Rule) (B : ℕ) (r : QueuedUpdate) (xs : List (Option (Cause (caused_chase ms B)))) → slice_get rs k ≡ Some r → map is_some xs ≡ map is_some fresh
     → updates_of ms B rs' ≡ take k (updates_of ms B rs) ++ withdrawn_now (caused_chase ms B) (update_of ms B r) ∷ restart (caused_chase ms B) (suc (suc k)) xs (drop (suc k) (updates_of ms B rs))
 
--- The entry is that of the withdrawal of update k + 1, with these causes.
+-- The entry tells the withdrawal of update k + 1, with these causes.
 abbrev pub TellsWithdrawal : ℕ → Listed CauseOfProgram → List QueuedUpdate → Entry → Type 0
 TellsWithdrawal k causes rs e =
     (ms : List Rule) (B : ℕ) → entry_of e ≡ WasWithdrawn (record { update = suc k; causes = map cause_of causes.items; committed = committed (caused_chase ms B) (updates_of ms B rs) })
 
--- The withdrawal of update k + 1 leads from these parts to those, where it is neither committed nor withdrawn.
+-- If update k + 1 is neither committed nor withdrawn, its withdrawal leads from these parts to those.
 abbrev pub WithdrawsTo : List Rule → Settings → ℕ → Kept → List QueuedUpdate → List Entry → Kept → List QueuedUpdate → List Entry → Type 0
 WithdrawsTo ms s k v rs es v' rs' es' =
     (B : ℕ) (D : List Fact) (requests : List Request) (later : List Operation) → IsKept (ground_with ms s B D requests later) v rs (map entry_of es)

@@ -10,8 +10,8 @@ use core_entries::{Entry, EntryList};
 use core_queue::QueuedUpdate;
 use std::alloc::Global;
 
-/// Admits the update behind the others, with no recorded answers. It gives its number. If it is refused, it hands the update
-/// back, and what the queue and the history mean stays.
+/// Admits the update after the others, with no recorded answers, and returns its number. On an error the update is handed back,
+/// and the queue and the history keep their meaning.
 pub(crate) fn admit_at(
     alloc: Global,
     queue: &mut Vec<QueuedUpdate>,
@@ -49,7 +49,7 @@ fn next_number(queue: &[QueuedUpdate]) -> u32
     queue.len() as u32 + 1
 }
 
-// Makes room for the entry and for the update, and then puts its queued update behind the others.
+// Makes room for the entry and for the update, and then puts its queued update after the others.
 fn prepare_admission(
     alloc: Global,
     queue: &mut Vec<QueuedUpdate>,

@@ -30,7 +30,7 @@ pub(crate) fn admitted(
     Ok(queue)
 }
 
-// Most updates have no more entries than this, their admissions among them.
+// Most updates have no more entries than this number, their admissions included.
 const MOST_ENTRIES: usize = 6;
 
 /// The entries of the admissions of these updates.

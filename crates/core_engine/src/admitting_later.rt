@@ -14,8 +14,8 @@ use lang_session::admits;
 use std::alloc::Global;
 
 impl<'s> Core<'s> {
-    /// Whether the update may be admitted next, over the relations of this schema: it fits them, its words are at most 256 bytes
-    /// of UTF-8, its nulls come from updates that are there, and it puts no mapping in force.
+    /// Whether the update may be admitted next, over the relations of this schema: it fits them, its words are at most 256
+    /// bytes of UTF-8, its nulls come from updates that are there, and it puts no mapping in force.
     pub fn admits(&self, schema: &Schema, update: &Update) -> bool
         ensures admits { result ≡ admits_at self.now schema.now
             (operation_of update.now.operation) }
@@ -23,9 +23,8 @@ impl<'s> Core<'s> {
         admits(schema, self.count(), &update.operation)
     }
 
-    /// Admits one more update, behind the others and with no recorded answers. It gives its number. Where it is refused the
-    /// update is handed back, and the core is unchanged. Whether it may be admitted, as `admits` tells, is for the caller to
-    /// test.
+    /// Admits one more update, after the others and with no recorded answers, and returns its number. On an error the update is
+    /// handed back, and the core is unchanged. The caller must test with `admits` whether the update may be admitted.
     pub fn admit(&mut self, alloc: Global, update: Update) -> Result<u32, (AdmitRefusal, Update)>
         ensures made { OnOk result (HasAdmitted self.old (operation_of update.operation) self.new) }
         ensures kept { OnErr result (self.new ≡ self.old) }
@@ -41,7 +40,7 @@ impl<'s> Core<'s> {
         }
     }
 
-    // Admits one more update; there are fewer than the most. If it is refused, it hands the update back.
+    // Admits one more update; there is room for it in the numbers. On an error the update is handed back.
     fn make_admission(&mut self, alloc: Global, update: Update) -> Result<u32, Update>
         requires few { length (updates_at self.old) < 1000 }
         ensures made { OnOk result (HasAdmitted self.old (operation_of update.operation) self.new) }

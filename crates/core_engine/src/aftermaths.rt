@@ -11,15 +11,15 @@ use core_queue::{QueuedUpdate, fresh_programs};
 use set_versions::Versions;
 use std::alloc::Global;
 
-/// What an event leaves beside the versions: the next attempts of the updates above it that are restarted, and why they are.
+/// What an event leaves apart from the versions: the next attempts of the updates above it that are restarted, and the causes.
 #[derive(Drop)]
 pub(crate) struct Aftermath {
     pub(crate) fresh: Vec<Option<Attempt>>,
     pub(crate) causes: CauseList,
 }
 
-/// What is left where the updates above restart that have a cause, which was looked for among the first of them: the versions
-/// lose their trails. If it is refused, some of the trails may be gone.
+/// Restarts the updates above that have a cause: makes their next attempts, and takes their trails out of the versions. `found`
+/// has the causes of the first of them. On an error some of the trails may be gone.
 pub(crate) fn settled(
     alloc: Global,
     versions: &mut Versions,
@@ -89,7 +89,7 @@ fn in_order(alloc: Global, found: Vec<Option<Cause>>) -> Result<CauseList, Memor
     Ok(conflicts)
 }
 
-// Puts the cause behind those of its kind, if there is one.
+// Puts the cause, if there is one, after those of its kind.
 fn put(
     conflicts: &mut CauseList,
     dependences: &mut CauseList,

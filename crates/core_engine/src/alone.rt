@@ -1,4 +1,4 @@
-//! A step above which nobody has read anything: its writes go in place, and no update restarts.
+//! A step above which no update has read anything: its writes are put in place, and no update restarts.
 ghost use Rattle.std.specs.Prelude.{◌≡◌, [], false, IsTrue, IfOk, OnErr};
 ghost use Rattle.core_queue.specs.Programs.{HasSpent, IsBetween};
 ghost use Rattle.core_engine.specs.Steps.{HasHidden, IsPreparedAlone};
@@ -13,7 +13,7 @@ use core_queue::{QueuedUpdate, has_spent};
 use set_versions::Versions;
 use std::alloc::Global;
 
-/// Whether nobody above has read anything, of so many that may have, and the attempt is not ended spent or refused.
+/// Whether no update above has read anything (`readers` of them may have) and the attempt has not ended spent or refused.
 pub(crate) fn is_alone(readers: usize, program: &Attempt) -> bool
     requires between { IsBetween program.now }
     ensures unread { IsTrue result → readers ≡ 0 }
@@ -29,8 +29,8 @@ pub(crate) fn is_alone(readers: usize, program: &Attempt) -> bool
     !has_spent(program)
 }
 
-/// What the step of the plan leaves, where none of the updates above has read anything. Its writes go into the versions, which is
-/// the last that can fail. If it is refused, the versions are as they were.
+/// What the step of the plan leaves if none of the updates above has read anything. Last its writes go into the versions; on an
+/// error the versions are unchanged.
 pub(crate) fn prepare_alone(
     alloc: Global,
     versions: &mut Versions,

@@ -1,4 +1,4 @@
-//! Answers by people to the questions of updates.
+//! People's answers to the questions of updates.
 ghost use Rattle.std.specs.Prelude.{◌≡◌, length, true, IfOk, IfErr, OnOk, OnErr};
 ghost use Rattle.base_types.specs.Meanings.{choice_of};
 ghost use Rattle.def_machine.specs.Effects.{Answers};
@@ -16,8 +16,8 @@ use core_entries::Standing;
 use std::alloc::Global;
 
 impl<'s> Core<'s> {
-    /// Answers the question at which the update is paused; answers that were delivered for later questions are dropped. It
-    /// gives the number of the entry. Where it is refused the choice is handed back, and the core is unchanged.
+    /// Answers the question at which the update is paused, and returns the number of the entry. Answers that were delivered for
+    /// later questions are dropped. On an error the choice is handed back, and the core is unchanged.
     pub fn answer(
         &mut self,
         alloc: Global,
@@ -72,7 +72,7 @@ impl<'s> Core<'s> {
         }
     }
 
-    // Answers the question of the update, which is paused; the choice fits. If it is refused, it hands the choice back.
+    // Answers the question of the update, which is paused; the choice fits. On an error the choice is handed back.
     fn make_answer(&mut self, alloc: Global, update: u32, choice: Choice) -> Result<u64, Choice>
         requires paused { is_paused_in (standing_at self.old update) ≡ true }
         requires fits { fits_at self.old update (choice_of choice) ≡ true }

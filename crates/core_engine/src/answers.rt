@@ -13,8 +13,8 @@ use core_entries::{Entry, EntryList};
 use core_queue::{QueuedUpdate, Settings, committed};
 use std::alloc::Global;
 
-/// Puts the choice where the update at the place waits for an answer. If it is refused, it hands the choice back, and what the
-/// queue and the history mean stays.
+/// Makes the choice the answer that the update at the place waits for. On an error the choice is handed back, and the queue and
+/// the history keep their meaning.
 pub(crate) fn answer_at(
     alloc: Global,
     settings: Settings,
@@ -41,7 +41,7 @@ pub(crate) fn answer_at(
     }
 }
 
-// Makes room for the answer, and a copy of the choice for its entry. What queue and history mean stays.
+// Makes room for the answer, and copies the choice for its entry. The queue and the history keep their meaning.
 fn prepare_answer(
     alloc: Global,
     queue: &mut [QueuedUpdate],
@@ -62,8 +62,8 @@ fn prepare_answer(
     Ok(told)
 }
 
-// Puts the choice where the update at the place waits for an answer, and tells the other, which is the same. There is room
-// for it.
+// Makes the choice the answer that the update at the place waits for, and puts its copy `told` into the entry. There is room
+// for both.
 fn put_answer(
     alloc: Global,
     settings: Settings,

@@ -39,8 +39,7 @@ use set_versions::Versions;
 use std::alloc::Global;
 use std::marker::Model;
 
-/// The updates of a session with all that was done to them. Contracts see what its history is over, and the entries of
-/// that history.
+/// The updates of a session with all that was done to them. Contracts see what the history is over, and its entries.
 #[derive(Drop)]
 pub struct Core<'s> {
     pub(crate) mappings: TouchedMappings<'s>,
@@ -52,13 +51,13 @@ pub struct Core<'s> {
     pub(crate) versions: Versions,
     pub(crate) queue: Vec<QueuedUpdate>,
     pub(crate) history: EntryList,
-    // At least so many updates are committed; the walks over the queue begin behind them.
+    // At least this number of updates is committed; the walks over the queue begin after them.
     pub(crate) least: u32,
-    // At most the first so many have read something; the walks upwards from an event end with them.
+    // No update after this number of them has read anything; the walks upwards from an event end there.
     pub(crate) most: u32,
-    // The first so many are unready; the search for a ready one begins behind them.
+    // This number of the first updates is unready; the search for a ready one begins after them.
     pub(crate) unready: usize,
-    // The marks of the update that made the last step, by which its next one is planned.
+    // The marks of the update that made the last step, for the plan of its next one.
     pub(crate) known: Known,
 }
 
@@ -105,7 +104,8 @@ impl<'s> Core<'s> {
         Core::open_over(alloc, session, base, settings, budget)
     }
 
-    /// The same over its base, which is handed over as a set of tuples (`base_of`).
+    /// The core of a session over its base, which is handed over as a set of tuples (`base_of`). All its updates are admitted,
+    /// each with its recorded answers.
     pub fn open_over(
         alloc: Global,
         session: &'s Session,
@@ -158,14 +158,14 @@ impl<'s> Core<'s> {
         committed_from(&self.queue, self.least)
     }
 
-    /// What the update of this number may do next; None exactly where there is none.
+    /// What the update of this number may do next; None exactly if there is no such update.
     pub fn standing(&self, update: u32) -> Option<Standing>
         ensures standing { option_map standing_of result ≡ standing_at self.now update }
     {
         standing(&self.queue, self.settings, update)
     }
 
-    /// The question that is put to people for the update of this number: there is one exactly where it is paused.
+    /// The question that is put to people for the update of this number: there is one exactly if the update is paused.
     pub fn question(&self, update: u32) -> Option<&Question>
         ensures question { option_map inquiry_of (option_copied result) ≡ option_map inquiry_in
             (question_at self.now update) }
@@ -215,7 +215,7 @@ impl<'s> Core<'s> {
         next_deliverable(&self.queue, self.settings, self.least)
     }
 
-    /// Whether nothing is ready, and nothing deliverable.
+    /// Whether nothing is ready, and nothing is deliverable.
     pub fn is_quiet(&self) -> bool
         ensures quiet { result ≡ is_quiet_at self.now }
     {
@@ -229,7 +229,7 @@ impl<'s> Core<'s> {
         self.history.as_slice()
     }
 
-    /// What is always true of a core: its history is legal over what it is over. It does nothing but say so.
+    /// The function does nothing: its contract says what is always true of a core. Its history is legal over what it is over.
     pub fn is_legal(&self)
         ensures legal { IsLegalOver self.now.over self.now.history }
         ensures sorted { IsRepository self.now.over.base }
@@ -238,7 +238,7 @@ impl<'s> Core<'s> {
         let _ = &self.queue;
     }
 
-    /// What is needed to plan the next step of an update that is ready, whatever is done meanwhile.
+    /// What is needed to plan the next step of a ready update, whatever is done meanwhile.
     pub fn snapshot(&self, alloc: Global, update: u32) -> Result<Snapshot<'s>, Memory>
         requires ready { standing_at self.now update ≡ Some Ready }
         ensures update { IfOk result (λ snapshot. snapshot.update ≡ update) }
@@ -251,8 +251,8 @@ impl<'s> Core<'s> {
         Ok(snapshot)
     }
 
-    /// The next step of an update that is ready, planned without a snapshot. The core keeps what the step tells of mappings,
-    /// which nobody sees.
+    /// The next step of a ready update, planned without a snapshot. The core keeps what the step shows of mappings, which
+    /// callers do not see.
     pub fn next_plan(&mut self, alloc: Global, update: u32) -> Result<Plan, Memory>
         requires ready { standing_at self.old update ≡ Some Ready }
         ensures same { self.new ≡ self.old }
@@ -267,8 +267,8 @@ impl<'s> Core<'s> {
         plan_at(alloc, mappings, self.budget, versions, queue, place, known)
     }
 
-    /// Makes the step of the plan, which is the next one of its update at the present state. It gives the number of the entry. If
-    /// it is refused, the core is unchanged.
+    /// Makes the step of the plan, which must be the next one of its update at the present state, and returns the number of the
+    /// entry. On an error the core is unchanged.
     pub fn install(&mut self, alloc: Global, plan: Plan) -> Result<u64, Memory>
         requires ready { standing_at self.old plan.update ≡ Some Ready }
         requires step { IsStepAt self.old plan }
@@ -308,7 +308,7 @@ impl<'s> Core<'s> {
         Ok(self.history.len() as u64)
     }
 
-    /// Makes the next step of the update. It gives the number of the entry. Where it is refused the core is unchanged.
+    /// Makes the next step of the update, and returns the number of the entry. On an error the core is unchanged.
     pub fn step(&mut self, alloc: Global, update: u32) -> Result<u64, StepRefusal>
         ensures made { OnOk result (HasMade self.old (Steps update) self.new) }
         ensures number { IfOk result (λ n. n ≡ length self.new.history) }
@@ -322,8 +322,8 @@ impl<'s> Core<'s> {
         }
     }
 
-    /// Delivers the first of the answers that wait for the update. It gives the number of the entry. Where it is refused
-    /// the core is unchanged.
+    /// Delivers the first of the answers that wait for the update, and returns the number of the entry. On an error the core is
+    /// unchanged.
     pub fn deliver(&mut self, update: u32) -> Result<u64, DeliverRefusal>
         ensures made { OnOk result (HasMade self.old (Delivers update) self.new) }
         ensures number { IfOk result (λ n. n ≡ length self.new.history) }

@@ -9,7 +9,7 @@ use base_types::Memory;
 use core_entries::{Entry, EntryList};
 use core_queue::{QueuedUpdate, Settings, committed};
 
-/// Delivers the first recorded answer to the update at the place. If it is refused, what the queue and the history mean stays.
+/// Delivers the first recorded answer to the update at the place. On an error the queue and the history keep their meaning.
 pub(crate) fn deliver_at(
     settings: Settings,
     queue: &mut [QueuedUpdate],
@@ -32,7 +32,7 @@ pub(crate) fn deliver_at(
     Ok(())
 }
 
-/// Makes room for one more answer to the update at the place, and for its entry. What queue and history mean stays.
+/// Makes room for one more answer to the update at the place, and for its entry. The queue and the history keep their meaning.
 pub(crate) fn reserve_delivery(
     queue: &mut [QueuedUpdate],
     history: &mut EntryList,

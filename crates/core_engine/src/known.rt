@@ -1,4 +1,4 @@
-//! Which mappings are known to be settled for one of the updates of a core, so that a look of its need not read its log.
+//! The mappings that are known to be settled for one of the updates of a core, so that its look need not read its log.
 ghost use Rattle.std.specs.Prelude.{◌≡◌, ◌≤◌, List, IfOk};
 ghost use Rattle.def_chase.specs.Values.{Fact};
 ghost use Rattle.chase_plan.specs.Planned.{HasSettled};
@@ -12,7 +12,7 @@ use core_queue::QueuedUpdate;
 use std::alloc::Global;
 use std::mem;
 
-/// The marks of the update of this number, that were right when its attempt had made so many writes. No update has number 0.
+/// The marks of the update of this number, which were right when its attempt had `made` writes. No update has number 0.
 #[derive(Drop)]
 pub(crate) struct Known {
     pub(crate) update: u32,
@@ -35,8 +35,8 @@ impl Known {
         })
     }
 
-    /// The mappings that are settled for the queued update, by its marks if they are there, and else by its log. From then on
-    /// there are marks of no update.
+    /// The mappings that are settled for the queued update, by its marks if they are there, and else by its log. Afterwards the
+    /// marks are of no update.
     pub(crate) fn take(
         &mut self,
         alloc: Global,
@@ -62,7 +62,7 @@ impl Known {
         Ok(settled)
     }
 
-    /// The number of the update, if there are marks of it; else 0.
+    /// The number of the update, if the marks are of it; else 0.
     pub(crate) fn number_of(&self, update: u32) -> u32
         ensures known { 1 ≤ result → self.now.update ≡ result }
         ensures update { 1 ≤ result → result ≡ update }
@@ -70,7 +70,7 @@ impl Known {
         if self.update == update { update } else { 0 }
     }
 
-    /// Keeps the marks of the update, that are right when its attempt has made so many writes.
+    /// Keeps the marks of the update, which are right when its attempt has `made` writes.
     pub(crate) fn keep(&mut self, update: u32, made: u64, marks: Settled)
         ensures update { self.new.update ≡ update }
         ensures made { self.new.made ≡ made }

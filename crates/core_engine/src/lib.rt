@@ -1,7 +1,7 @@
 //! The core: the updates of a session, taken in steps in any order, with the history of all that was done.
 //!
-//! `README.md` has the contract. What a core is to its callers is said in `specs/States.antt`: what its history is over,
-//! and the entries of that history. Each call that changes a core makes one event of that history.
+//! `README.md` has the contract. `specs/States.antt` says what a core is to its callers: what its history is over, and the
+//! entries of that history. Each call that changes a core makes one event of that history.
 #![tactic(auto)]
 
 mod admissions;

@@ -1,11 +1,11 @@
-//! What a core commits, whatever was called.
+//! What a core commits, whatever calls were made.
 //!
 //! The definitions stand in `specs/Lives.antt`. The function is a law, whose contract is the statement and whose body is empty.
 ghost use Rattle.core_engine.specs.Lives.{LiveCoresAreSerial};
 
-/// A core is opened on a session whose base violates no mapping, and changed by any number of steps, deliveries, answers,
-/// withdrawals, and admissions that `Core::admits` accepts over the session's own relations. What it commits is what the
-/// serial machine makes of the committed updates alone, taken whole, in number order, with the answers delivered to them.
+/// A core is opened on a session whose base violates no mapping. Any number of steps, deliveries, answers, withdrawals, and
+/// admissions that `Core::admits` accepts over the session's own relations change it. What it commits is what the serial
+/// machine makes of the committed updates alone, taken whole, in number order, with the answers delivered to them.
 pub fn live_cores_are_serial()
     ensures { LiveCoresAreSerial }
 {}

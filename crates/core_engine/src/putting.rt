@@ -1,4 +1,4 @@
-//! A step that is prepared, put in place: from then on nothing can fail.
+//! A step that is prepared is put in place: from then on nothing can fail.
 ghost use Rattle.std.specs.Prelude.{◌≡◌, ◌<◌, ◌≤◌, suc, List, drop, length, IfOk, OnOk, OnErr};
 ghost use Rattle.def_chase.specs.Mappings.{Rule};
 ghost use Rattle.core_queue.specs.Programs.{IsBetween};
@@ -19,8 +19,8 @@ use core_queue::{QueuedUpdate, Settings, committed_from};
 use set_versions::Versions;
 use std::alloc::Global;
 
-/// Makes the step of the plan, which is the next one of the update at the place. It gives how many are committed at least then.
-/// If it is refused, what the queue and the history mean stays.
+/// Makes the step of the plan, which is the next one of the update at the place. Returns a number of updates that are committed
+/// at least afterwards. On an error the queue and the history keep their meaning.
 pub(crate) fn step_at(
     alloc: Global,
     scene: &Scene<'_>,
@@ -67,8 +67,8 @@ pub(crate) fn step_at(
     }
 }
 
-// Makes room for the step of the plan, and prepares what it leaves. The versions are put in place with it. If it is refused, the
-// versions are as they were. What queue and history mean stays.
+// Makes room for the step of the plan, and prepares what it leaves. The versions are put in place with it. On an error the
+// versions are unchanged. The queue and the history keep their meaning.
 fn ready_step(
     alloc: Global,
     scene: &Scene<'_>,
@@ -99,8 +99,9 @@ fn ready_step(
     prepare_at(alloc, scene, versions, queue, place, plan)
 }
 
-// Puts the step of the plan in place, which was prepared and whose versions are in place: it is the next one of the update at the
-// place, where at least so many are committed. It gives how many are committed then. There is room for it, so that it takes no memory.
+// Puts the step of the plan in place, which was prepared and whose versions are in place. It is the next step of the update at
+// the place; at least `least` updates are committed. Returns the number of updates that are committed after it. There is room
+// for it.
 fn put_step(
     settings: Settings,
     least: u32,
@@ -143,7 +144,7 @@ fn put_step(
     committed
 }
 
-// The entry of the step that the update at the place made, where so many are committed.
+// The entry of the step that the update at the place made, after which `committed` updates are committed.
 fn step_entry(
     settings: Settings,
     committed: u32,
@@ -171,7 +172,7 @@ fn step_entry(
     }
 }
 
-/// So many, where they are all below the place.
+/// `least`, if that number of updates is below the place; else 0.
 pub(crate) fn least_below(least: u32, place: usize) -> u32
     ensures least { result ≤ least }
     ensures below { result ≤ place }

@@ -1,4 +1,4 @@
-//! What is told of a core, and what a session comes to whose core is drained.
+//! The result of a core, and what a session comes to whose core is drained.
 ghost use Rattle.std.specs.Prelude.{◌≡◌, ◌≤◌, None, true, IfOk, OnOk};
 ghost use Rattle.def_language.specs.Validity.{IsSession};
 ghost use Rattle.lang_session.specs.Base.{base_violation};
@@ -18,8 +18,8 @@ use lang_session::Session;
 use std::alloc::Global;
 
 impl<'s> Core<'s> {
-    /// How the committed updates ended, where the lowest that is not committed stops, and the repository that the committed ones
-    /// left, nulls by their outer forms.
+    /// How the committed updates ended, where the lowest that is not committed stops, and the repository that the committed
+    /// ones left. Nulls are in their outer forms.
     pub fn result(&self, alloc: Global) -> Result<SessionResult, Memory>
         ensures told { IfOk result (IsResultOf self.now) }
     {
@@ -28,7 +28,7 @@ impl<'s> Core<'s> {
     }
 }
 
-/// What the session comes to by a core that is drained: whatever the settings, that is the serial run.
+/// The result of the session by a core that is drained. Whatever the settings, it is the result of the serial run.
 pub fn drained(
     alloc: Global,
     session: &Session,
@@ -45,7 +45,7 @@ pub fn drained(
     came_to(alloc, &mut core)
 }
 
-// What the core comes to once it is drained.
+// The result of the core once it is drained.
 fn came_to(alloc: Global, core: &mut Core<'_>) -> Result<SessionResult, Memory>
     ensures turned { HasTurned core.old core.new }
     ensures quiet { OnOk result (is_quiet_at core.new ≡ true) }

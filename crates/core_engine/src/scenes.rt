@@ -3,8 +3,8 @@
 use base_limits::Mappings;
 use core_queue::{QueuedUpdate, Settings};
 
-/// What an event finds: the mappings, the settings, at least how many updates are committed, and at most how many of the
-/// first have read something.
+/// What an event finds: the mappings, the settings, a number of updates that are committed at least, and a number of the first
+/// updates after which none has read anything.
 #[derive(Drop)]
 pub(crate) struct Scene<'a> {
     pub(crate) mappings: &'a Mappings<'a>,
@@ -13,7 +13,7 @@ pub(crate) struct Scene<'a> {
     pub(crate) most: u32,
 }
 
-/// The update at a place of the queue with those above it, of which only the first `readers` may have read something.
+/// The update at a place of the queue, and the updates above it, of which only the first `readers` may have read something.
 #[derive(Drop)]
 pub(crate) struct Spot<'a> {
     pub(crate) item: &'a QueuedUpdate,

@@ -1,4 +1,4 @@
-//! What is told of one update of a queue.
+//! Questions about one update of a queue.
 ghost use Rattle.std.specs.Option.{option_map, option_copied};
 ghost use Rattle.std.specs.Prelude.{◌≡◌, ◌≤◌, suc};
 ghost use Rattle.base_types.specs.Meanings.{choice_of};
@@ -13,7 +13,7 @@ use chase_question::Question;
 use core_entries::Standing;
 use core_queue::{QueuedUpdate, Settings, committed};
 
-/// The queued update of the update of this number, counted from 1; None exactly where there is none.
+/// The queued update of this number, counted from 1; None exactly if there is none.
 pub(crate) fn queued_at(queue: &[QueuedUpdate], number: u32) -> Option<&QueuedUpdate>
     ensures queued { option_copied result ≡ numbered_at queue.now number }
 {
@@ -24,7 +24,7 @@ pub(crate) fn queued_at(queue: &[QueuedUpdate], number: u32) -> Option<&QueuedUp
 }
 
 #[tactic(auto, using(crate::proofs::Telling::between_at))]
-/// What the update of this number may do next; None exactly where there is none.
+/// What the update of this number may do next; None exactly if there is no such update.
 pub(crate) fn standing(queue: &[QueuedUpdate], settings: Settings, number: u32) -> Option<Standing>
     requires from { AreFrom 1 queue.now }
     ensures standing { HasStandingAt (settings_of settings) queue.now number

@@ -24,15 +24,15 @@ use core_queue::{QueuedUpdate, committed_from, has_spent, outcome, restart_marke
 use set_versions::Versions;
 use std::alloc::Global;
 
-/// What a step leaves beside the versions: the writes that it shows, and what becomes of the updates above.
+/// What a step leaves apart from the versions: the writes that it shows, and what becomes of the updates above.
 #[derive(Drop)]
 pub(crate) struct Prepared {
     pub(crate) writes: WriteList,
     pub(crate) left: Aftermath,
 }
 
-/// What the step of the plan leaves. The plan is one of the update at the spot, and so many updates are committed. The versions
-/// after it are made aside, and put in place last. If it is refused, the versions are as they were.
+/// What the step of the plan leaves. The plan is of the update at the spot, and `committed` updates are committed. The versions
+/// after the step are made aside, and put in place last. On an error the versions are unchanged.
 pub(crate) fn prepare(
     alloc: Global,
     scene: &Scene<'_>,
@@ -98,7 +98,7 @@ fn found<'a>(
     walk.causes_of_writes(alloc, written, spot.upper, spot.readers)
 }
 
-// The writes that come by the step, or that go where the attempt ends by it spent or refused.
+// The writes that come by the step, or those that go if the attempt ends by it spent or refused.
 fn turned<'a>(item: &'a QueuedUpdate, plan: &'a Plan) -> (Sense, &'a [Write])
     requires between { IsBetween item.now.program }
     requires after { IsBetween plan.now.program }
@@ -110,7 +110,7 @@ fn turned<'a>(item: &'a QueuedUpdate, plan: &'a Plan) -> (Sense, &'a [Write])
     (Sense::Came, item.written(plan))
 }
 
-// The versions with the writes that the step shows; without those of the update where it ends by it spent or refused.
+// The versions with the writes that the step shows, or without those of the update if it ends by the step spent or refused.
 fn versions_after(
     alloc: Global,
     versions: &Versions,
@@ -152,8 +152,8 @@ pub(crate) fn copied(alloc: Global, writes: &[Write]) -> Result<WriteList, Memor
     Ok(copies)
 }
 
-/// What the step of the plan leaves. The plan is one of the update at the place. The versions are put in place with it. If it is
-/// refused, the versions are as they were.
+/// What the step of the plan leaves. The plan is of the update at the place. The versions are put in place with it. On an error
+/// the versions are unchanged.
 pub(crate) fn prepare_at(
     alloc: Global,
     scene: &Scene<'_>,
@@ -197,7 +197,7 @@ pub(crate) fn above(queue: &[QueuedUpdate], place: usize) -> &[QueuedUpdate]
     &queue[place + 1..]
 }
 
-/// How many of the first updates above the place may have read something, where at most so many of all have.
+/// How many of the first updates above the place may have read something; in the whole queue only the first `most` may have.
 pub(crate) fn readers_above(queue: &[QueuedUpdate], place: usize, most: u32) -> usize
     requires place { place < length queue.now }
     requires most { ReadsAtMost queue.now most }
@@ -208,8 +208,7 @@ pub(crate) fn readers_above(queue: &[QueuedUpdate], place: usize, most: u32) -> 
     (most as usize).saturating_sub(place + 1)
 }
 
-/// Puts the step of the plan in place, and restarts those of the updates above for which there is an attempt. It takes no
-/// memory.
+/// Puts the step of the plan in place, and restarts the updates above for which there is an attempt.
 pub(crate) fn install(
     queue: &mut [QueuedUpdate],
     place: usize,
@@ -233,7 +232,7 @@ pub(crate) fn install(
     restart_marked(queue, place + 1, fresh);
 }
 
-/// So many, or all up to the update, which has made a step.
+/// `most`, or the number of the update if that is higher: it has made a step.
 pub(crate) fn raised(most: u32, update: u32) -> u32
     ensures most { most ≤ result }
     ensures update { update ≤ result }
@@ -241,7 +240,7 @@ pub(crate) fn raised(most: u32, update: u32) -> u32
     if most < update { update } else { most }
 }
 
-/// The lesser of both.
+/// The lesser of the two.
 pub(crate) fn lesser(one: usize, other: usize) -> usize
     ensures one { result ≤ one }
     ensures other { result ≤ other }
@@ -260,7 +259,7 @@ pub(crate) fn put_last(history: &mut EntryList, entry: Entry)
     }
 }
 
-/// Makes room for the step of the plan. What queue and history mean stays.
+/// Makes room for the step of the plan. The queue and the history keep their meaning.
 pub(crate) fn reserve_step(
     queue: &mut [QueuedUpdate],
     history: &mut EntryList,

@@ -19,7 +19,7 @@ use core_queue::{QueuedUpdate, Settings, committed, restart_marked};
 use set_versions::Versions;
 use std::alloc::Global;
 
-/// Withdraws the update at the place. If it is refused, what the history means stays, and the rest is unchanged.
+/// Withdraws the update at the place. On an error the history keeps its meaning, and the rest is unchanged.
 pub(crate) fn withdraw_at(
     alloc: Global,
     mappings: &Mappings<'_>,
@@ -44,7 +44,7 @@ pub(crate) fn withdraw_at(
     Ok(())
 }
 
-// Withdraws the update at the place. There is room for the entry. If it is refused, nothing is changed.
+// Withdraws the update at the place. There is room for the entry. On an error nothing is changed.
 fn make_withdrawal(
     alloc: Global,
     mappings: &Mappings<'_>,
@@ -72,8 +72,8 @@ fn make_withdrawal(
     Ok(())
 }
 
-// What the withdrawal of the update at the place leaves. The versions are put in place with it. If it is refused, the versions
-// are as they were.
+// What the withdrawal of the update at the place leaves. The versions are put in place with it. On an error the versions are
+// unchanged.
 fn prepare_loss_at(
     alloc: Global,
     mappings: &Mappings<'_>,
@@ -96,8 +96,8 @@ fn prepare_loss_at(
     prepare_loss(alloc, mappings, settings, committed, versions, item, upper)
 }
 
-// What the withdrawal of the queued update leaves, where `upper` are the updates above it, and so many are committed. The
-// versions after it are made aside, and put in place last. If it is refused, the versions are as they were.
+// What the withdrawal of the queued update leaves. `upper` are the updates above it, and `committed` updates are committed. The
+// versions after it are made aside, and put in place last. On an error the versions are unchanged.
 fn prepare_loss(
     alloc: Global,
     mappings: &Mappings<'_>,
@@ -122,7 +122,7 @@ fn prepare_loss(
     Ok(left)
 }
 
-// Why each of the updates above is restarted where the update loses its trail, if it is.
+// Why each of the updates above is restarted, if it is, when the update loses its trail.
 fn found_lost<'a>(
     alloc: Global,
     mappings: &'a Mappings<'a>,
@@ -159,8 +159,7 @@ fn without(alloc: Global, versions: &Versions, item: &QueuedUpdate) -> Result<Ve
     Ok(after)
 }
 
-// Withdraws the update at the place, and restarts those of the updates above for which there is an attempt. It takes no
-// memory.
+// Withdraws the update at the place, and restarts the updates above for which there is an attempt.
 fn remove(queue: &mut [QueuedUpdate], place: usize, fresh: Vec<Option<Attempt>>)
     requires place { place < length queue.old }
     requires numbers { AreFrom 1 queue.old }

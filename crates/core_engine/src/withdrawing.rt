@@ -15,8 +15,8 @@ use core_entries::Standing;
 use std::alloc::Global;
 
 impl<'s> Core<'s> {
-    /// Withdraws the update: it loses its writes, and those above it restart that read them. It gives the number of the
-    /// entry. Where it is refused the core is unchanged.
+    /// Withdraws the update, and returns the number of the entry. The update loses its writes, and the updates above that
+    /// depend on them restart. On an error the core is unchanged.
     pub fn withdraw(&mut self, alloc: Global, update: u32) -> Result<u64, WithdrawRefusal>
         ensures made { OnOk result (HasMade self.old (Withdraws update) self.new) }
         ensures number { IfOk result (λ n. n ≡ length self.new.history) }
@@ -31,7 +31,7 @@ impl<'s> Core<'s> {
         }
     }
 
-    // Withdraws the update, which stands so, where so many are committed.
+    // Withdraws the update, which has this standing; `committed` updates are committed.
     fn withdraw_standing(
         &mut self,
         alloc: Global,
