@@ -1,7 +1,7 @@
 //! The log of a workspace in its file: it is opened, created, appended to, folded, and read on by a process that stays.
 //!
 //! A call that changes the file holds the exclusive lock; a call that reads it holds a shared one, and writes nothing. What is
-//! acknowledged lasts. After a failed call of the system, the file must not be used any more.
+//! acknowledged lasts. After a system call fails, the process gives the file up.
 #![tactic(auto)]
 
 mod faults;
