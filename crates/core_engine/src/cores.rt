@@ -1,30 +1,30 @@
 //! A core, and what it is made of.
 ghost use Rattle.std.specs.Prelude.{◌≡◌, ◌≤◌, length, map, true, Some, IfSome, IfOk, OnOk, OnErr};
 ghost use Rattle.std.specs.Option.{option_map, option_copied};
+ghost use Rattle.base_types.specs.Meanings.{rule_of};
 ghost use Rattle.chase_question.specs.Inquiries.{inquiry_of, inquiry_in};
 ghost use Rattle.def_history.specs.Cores.{IsLegalOver};
-ghost use Rattle.def_machine.specs.Effects.{Steps, Delivers};
-ghost use Rattle.def_machine.specs.Standings.{Ready, Paused, Missing};
+ghost use Rattle.def_machine.specs.Effects.{Steps};
+ghost use Rattle.def_machine.specs.Standings.{Ready};
 ghost use Rattle.core_entries.specs.Meanings.{standing_of, entry_of};
 ghost use Rattle.def_chase.specs.Repository.{IsRepository};
 ghost use Rattle.def_language.specs.Validity.{IsSession};
 ghost use Rattle.lang_session.specs.Meanings.{session_of};
 ghost use Rattle.core_queue.specs.Settings.{settings_of};
 ghost use Rattle.core_engine.specs.States.{opened, updates_at, committed_at, standing_at, question_at, has_waiting as has_waiting_def, lowest_ready_at, lowest_ready_besides_at, lowest_deliverable_at, next_deliverable_at, is_quiet_at};
-ghost use Rattle.core_engine.specs.Events.{HasMade, AnswersStep, AnswersDelivery};
+ghost use Rattle.core_engine.specs.Events.{HasMade, AnswersStep};
 ghost use Rattle.core_engine.specs.Planned.{IsStepAt};
 
 use crate::admitting::{admissions, admitted};
-use crate::deliveries::deliver_at;
 use crate::known::Known;
 use crate::plans::{Plan, Snapshot, plan_at, snapshot_at};
-use crate::putting::{least_below, step_at};
-use crate::refusals::{DeliverRefusal, StepRefusal};
+use crate::putting::step_at;
+use crate::refusals::StepRefusal;
 use crate::scenes::Scene;
 use crate::standings::{has_waiting, place_of, question, standing};
 use crate::stepping::{lesser, raised};
 use base_limits::Budget;
-use base_types::{Memory, TupleList, UpdateList};
+use base_types::{MappingList, Memory, TupleList, UpdateList};
 use chase_plan::TouchedMappings;
 use chase_question::Question;
 use core_entries::{Entry, EntryList, Standing};
@@ -229,6 +229,13 @@ impl<'s> Core<'s> {
         self.history.as_slice()
     }
 
+    /// The mappings that the history is over.
+    pub fn mappings(&self) -> &'s MappingList
+        ensures rules { map rule_of result.now.items ≡ self.now.over.rules }
+    {
+        self.mappings.list()
+    }
+
     /// The function does nothing: its contract says what is always true of a core. Its history is legal over what it is over.
     pub fn is_legal(&self)
         ensures legal { IsLegalOver self.now.over self.now.history }
@@ -322,22 +329,6 @@ impl<'s> Core<'s> {
         }
     }
 
-    /// Delivers the first of the answers that wait for the update, and returns the number of the entry. On an error the core is
-    /// unchanged.
-    pub fn deliver(&mut self, update: u32) -> Result<u64, DeliverRefusal>
-        ensures made { OnOk result (HasMade self.old (Delivers update) self.new) }
-        ensures number { IfOk result (λ n. n ≡ length self.new.history) }
-        ensures kept { OnErr result (self.new ≡ self.old) }
-        ensures answer { AnswersDelivery (standing_at self.old update)
-            (has_waiting_def self.old update) result }
-    {
-        match self.standing(update) {
-            None => Err(DeliverRefusal::NoSuchUpdate),
-            Some(Standing::Pending) => self.deliver_pending(update),
-            Some(standing) => Err(DeliverRefusal::NotPending(standing)),
-        }
-    }
-
     // Makes the next step of the update, which is ready.
     fn step_ready(&mut self, alloc: Global, update: u32) -> Result<u64, StepRefusal>
         requires ready { standing_at self.old update ≡ Some Ready }
@@ -362,46 +353,5 @@ impl<'s> Core<'s> {
         let plan = self.next_plan(alloc, update)?;
         let number = self.install(alloc, plan)?;
         Ok(number)
-    }
-
-    // Delivers the first of the answers that wait for the update, which is pending, if there is one.
-    fn deliver_pending(&mut self, update: u32) -> Result<u64, DeliverRefusal>
-        requires pending { standing_at self.old update ≡ Some (Paused Missing) }
-        ensures made { OnOk result (HasMade self.old (Delivers update) self.new) }
-        ensures number { IfOk result (λ n. n ≡ length self.new.history) }
-        ensures kept { OnErr result (self.new ≡ self.old) }
-        ensures answer { AnswersDelivery (standing_at self.old update)
-            (has_waiting_def self.old update) result }
-    {
-        if !self.has_waiting(update) {
-            return Err(DeliverRefusal::NoAnswer);
-        }
-        match self.make_delivery(update) {
-            Ok(number) => Ok(number),
-            Err(_) => Err(DeliverRefusal::Memory),
-        }
-    }
-
-    // Delivers the first of the answers that wait for the update, which is pending.
-    pub(crate) fn make_delivery(&mut self, update: u32) -> Result<u64, Memory>
-        requires pending { standing_at self.old update ≡ Some (Paused Missing) }
-        requires waits { has_waiting_def self.old update ≡ true }
-        ensures made { OnOk result (HasMade self.old (Delivers update) self.new) }
-        ensures number { IfOk result (λ n. n ≡ length self.new.history) }
-        ensures kept { OnErr result (self.new ≡ self.old) }
-    {
-        let place = place_of(update);
-        let least = least_below(self.least, place);
-        let most = raised(self.most, update);
-        let unready = lesser(self.unready, place);
-        self.least = 0;
-        self.most = u32::MAX;
-        self.unready = 0;
-        self.known.update = 0;
-        deliver_at(self.settings, &mut self.queue, &mut self.history, place)?;
-        self.least = least;
-        self.most = most;
-        self.unready = unready;
-        Ok(self.history.len() as u64)
     }
 }

@@ -13,6 +13,7 @@ mod answering;
 mod answers;
 mod cores;
 mod deliveries;
+mod delivering;
 mod draining;
 mod known;
 mod lives;

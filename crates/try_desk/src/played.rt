@@ -14,7 +14,6 @@ use core_engine::Core;
 use core_queue::Settings;
 use lang_report::result_text;
 use lang_session::Session;
-use run_serial::mappings_of;
 use std::alloc::Global;
 use std::sync::Wait;
 use try_cases::{Case, CaseRefusal};
@@ -84,7 +83,7 @@ fn ended<'s, R: Wait, L: Lead>(
 {
     let core = Core::open(alloc, session, settings, budget)?;
     core.is_legal();
-    let seated = Seated::new(core, mappings_of(session).list(), Answers::Last);
+    let seated = Seated::new(core, Answers::Last);
     let (seated, result) = play(rt, alloc, seated, lead);
     let core = seated.into_core();
     match result {

@@ -1,6 +1,6 @@
 -- What the calls of a desk's core make, by those of the core.
 use Rattle.std.proofs.Common.{◌≡◌, sym, subst, ℕ, ◌≤◌, Option, Some, None, Result, Ok, Err}
-use Rattle.std.specs.Prelude.{IfOk, IfNone, OnOk}
+use Rattle.std.specs.Prelude.{IfOk, IfNone}
 use Rattle.def_machine.specs.Effects.{Steps, Delivers}
 use Rattle.def_machine.specs.Standings.{Ready}
 use Rattle.def_chase.specs.Repository.{IsRepository}
@@ -11,13 +11,6 @@ use Rattle.core_engine.specs.Planned.{PlanMeant, IsStepAt}
 use Rattle.core_engine.specs.States.{State, standing_at}
 use Rattle.work_session.specs.Steps.{IsStepOf, plan_stale_by}
 use Rattle.work_session.proofs.Staying.{ready_stands, stayed}
-
-if_made : {A F P : Type 0} (q : Result A F) → P → IfOk q (λ x. P)
-if_made (Ok a) p = p
-if_made (Err e) p = tt
-
-pub none_made : {A F : Type 0} (P : Type 0) (q : Result A F) (e : F) → q ≡ Err e → IfOk q (λ x. P)
-none_made {A} {F} P q e is = subst (λ (r : Result A F). IfOk r (λ x. P)) (sym is) tt
 
 module _ (a s : State) (same : a ≡ s) where
   pub ready_here : (n : ℕ) → IsReady s.over s.history n → standing_at a n ≡ Some Ready
@@ -41,8 +34,8 @@ module _ (a s : State) (same : a ≡ s) where
       (subst (λ (x : State). grown x.over x.history (Steps p.update) ≡ Some b.history) same m.grows)
 
   -- A delivery that was made is one.
-  pub delivered : {E A F : Type 0} (r : Result ℕ E) (q : Result A F) (b : State) (n k : ℕ) → r ≡ Ok k → OnOk r (HasMade a (Delivers n) b) → IfOk q (λ x. IsDelivery s.over s.history n b.history)
-  delivered {E} r q b n k is m = if_made q (subst (λ (x : State). grown x.over x.history (Delivers n) ≡ Some b.history) same (subst (λ (o : Result ℕ E). OnOk o (HasMade a (Delivers n) b)) is m).grows)
+  pub delivered : (b : State) (n : ℕ) → HasMade a (Delivers n) b → IsDelivery s.over s.history n b.history
+  delivered b n m = subst (λ (x : State). grown x.over x.history (Delivers n) ≡ Some b.history) same m.grows
 
   -- If no later entry makes it stale, a plan stays the step.
   pub stays_unless : (o : Option ℕ) (p : PlanMeant) (n : ℕ) → 1 ≤ a.over.budget → IsRepository a.over.base → IsLegalOver a.over a.history → o ≡ plan_stale_by p a.over a.history n

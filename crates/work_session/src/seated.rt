@@ -1,19 +1,16 @@
 //! The core of a session as a desk uses it.
-ghost use Rattle.std.specs.Prelude.{◌≡◌, map};
-ghost use Rattle.base_types.specs.Meanings.{rule_of};
+ghost use Rattle.std.specs.Prelude.{◌≡◌};
 
-use base_types::{MappingList, Memory};
+use base_types::Memory;
 use core_engine::{Core, Plan, Snapshot};
 use std::alloc::Global;
 use std::marker::Model;
 use work_stale::stale_by;
 
-/// A core with the mappings of its session, which decide whether an entry makes a plan stale. Contracts see what its history is
-/// over, and the entries of that history.
+/// A core, and when it delivers answers. Contracts see what its history is over, and the entries of that history.
 #[derive(Drop)]
 pub struct Seated<'s> {
     core: Core<'s>,
-    mappings: &'s MappingList,
     answers: Answers,
 }
 
@@ -27,39 +24,26 @@ pub enum Answers {
 }
 
 impl<'s> Model for Seated<'s> {
-    ghost use Rattle.std.specs.Prelude.{◌≡◌, map};
-    ghost use Rattle.base_types.specs.Meanings.{rule_of};
     ghost use Rattle.core_engine.specs.States.{State};
 
     ghost Value = { State };
 
     ghost view = { λ c. c.core };
-
-    ghost invariant = { λ c. map rule_of c.mappings.now.items ≡ c.core.over.rules };
 }
 
 impl<'s> Seated<'s> {
-    /// The core, with the mappings that its history is over.
-    pub fn new(core: Core<'s>, mappings: &'s MappingList, answers: Answers) -> Seated<'s>
-        requires same { map rule_of mappings.now.items ≡ core.over.rules }
+    /// The core, at which a desk delivers answers at these times.
+    pub fn new(core: Core<'s>, answers: Answers) -> Seated<'s>
         ensures core { result ≡ core.entry }
     {
-        Seated {
-            core,
-            mappings,
-            answers,
-        }
+        Seated { core, answers }
     }
 
     /// The core alone.
     pub fn into_core(self) -> Core<'s>
         ensures core { result ≡ self.entry }
     {
-        let Seated {
-            core,
-            mappings: _,
-            answers: _,
-        } = self;
+        let Seated { core, answers: _ } = self;
         core
     }
 }
@@ -110,10 +94,8 @@ impl<'s> work_desk::Core for Seated<'s> {
     }
 
     fn deliver(&mut self, _alloc: Global, update: u32) -> Result<(), Memory> {
-        match self.core.deliver(update) {
-            Ok(_) => Ok(()),
-            Err(_) => Err(Memory),
-        }
+        self.core.make_delivery(update)?;
+        Ok(())
     }
 
     fn snapshot(&self, alloc: Global, update: u32) -> Result<Snapshot<'s>, Memory> {
@@ -131,8 +113,9 @@ impl<'s> work_desk::Core for Seated<'s> {
 
     fn stale_by(&self, plan: &Plan, since: u64) -> Option<u64> {
         self.core.is_legal();
+        let mappings = self.core.mappings();
         let history = self.core.history();
-        stale_by(self.mappings, history, plan.update(), plan.reads(), since)
+        stale_by(mappings, history, plan.update(), plan.reads(), since)
     }
 
     fn install(&mut self, alloc: Global, plan: Plan) -> Result<(), Memory> {

@@ -17,7 +17,7 @@ use core_engine::Core;
 use core_entries::Entry;
 use core_queue::Settings;
 use lang_session::Session;
-use run_serial::{base_of, mappings_of};
+use run_serial::base_of;
 use set_facts::IndexedFacts;
 use std::alloc::Global;
 use std::marker::Model;
@@ -142,7 +142,7 @@ pub fn worked_over<'s, R: Threads + Wait + Clock + Sync, G: Gate + Sync>(
     } = working;
     let core = Core::open_over(alloc, session, base, settings, budget)?;
     core.is_legal();
-    let seated = Seated::new(core, mappings_of(session).list(), answers);
+    let seated = Seated::new(core, answers);
     match run(rt, gate, alloc, seated, seats) {
         Ok(seated) => Ok(WorkedSession {
             session,
