@@ -149,9 +149,18 @@ class Page:
         raise AssertionError("%s: there is no %s %s; the page says: %s" % (self.name, css, words or "", self.text("body")[:1500]))
 
     def click(self, css, words=None):
-        x, y = self.find(css, words)
-        for kind in ("mousePressed", "mouseReleased"):
-            self.send("Input.dispatchMouseEvent", type=kind, x=x, y=y, button="left", clickCount=1)
+        """Clicks on what `find` finds. A page that changed in between has put something else there: then it is looked for again."""
+        end = time.time() + PATIENCE
+        while time.time() < end:
+            x, y = self.find(css, words)
+            self.js("""window.clicked = false; addEventListener('click', event => { const e = event.target.closest(%s);
+                window.clicked = Boolean(e) && (e.innerText + ' ' + (e.getAttribute('aria-label') ?? '')).includes(%s); }, {capture: true, once: true})""" % (
+                json.dumps(css), json.dumps(words or "")))
+            for kind in ("mousePressed", "mouseReleased"):
+                self.send("Input.dispatchMouseEvent", type=kind, x=x, y=y, button="left", clickCount=1)
+            if self.js("window.clicked"):
+                return
+        raise AssertionError("%s: %s %s was never hit" % (self.name, css, words or ""))
 
     def press(self, *keys):
         """Presses keys by name; any other text is typed."""
@@ -164,10 +173,15 @@ class Page:
                 self.send("Input.insertText", text=key)
 
     def type(self, css, text):
-        """Puts a text into a field, instead of what it has."""
-        self.click(css)
-        self.js("document.activeElement.select()")
-        self.press(text)
+        """Puts a text into a field, instead of what it has. If the page put another field in its place meanwhile, it is typed again."""
+        end = time.time() + PATIENCE
+        while time.time() < end:
+            self.click(css)
+            self.js("document.activeElement.select()")
+            self.press(text)
+            if self.js("[...document.querySelectorAll(%s)].some(e => e.value === %s)" % (json.dumps(css), json.dumps(text))):
+                return
+        raise AssertionError("%s: %s never took the text %s" % (self.name, css, text))
 
     def choose(self, css, words):
         """Chooses an option of the first visible list of this selector."""

@@ -132,9 +132,8 @@ def a_curator_who_has_never_seen_a_shell(stage):
 
     ann.click("a", "Tables")
     ann.click("a", "Painter")
-    ann.click("button", "?7.1")
-    ann.click("#fill-in")
-    ann.press("Fabritius")
+    ann.click(".rows button", "?7.1")
+    ann.type("#fill-in", "Fabritius")
     ann.click("button", "Fill in")
     ann.click("#dialog button", "Fill in")
     ann.sees(".rows", "Fabritius")
