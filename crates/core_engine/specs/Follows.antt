@@ -64,6 +64,7 @@ pub record IsPlanFor (r : QueuedUpdate) (plan : Plan) : Type 0 where
 abbrev pub HasRoomAt : ℕ → Plan → List QueuedUpdate → Type 0
 HasRoomAt k plan rs = IsSomeThat (λ (r : QueuedUpdate). HasRoomFor plan r) (slice_get rs k)
 
+-- There is a queued update at the place, and the plan is that of a step of it.
 abbrev pub IsPlanAt : ℕ → Plan → List QueuedUpdate → Type 0
 IsPlanAt k plan rs = IsSomeThat (λ (r : QueuedUpdate). IsPlanFor r plan) (slice_get rs k)
 

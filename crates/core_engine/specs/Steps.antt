@@ -41,7 +41,7 @@ module _ (ms : List Rule) (B : ℕ) where
   abbrev pub MayStep : Settings → ℕ → ℕ → QueuedUpdate → Type 0
   MayStep s c n r = is_ready (standing (caused_chase ms B) s c n (update_of ms B r)) ≡ true
 
-  -- Whatever the versions stood for, they have now the second trail in place of the first for update n.
+  -- Whatever the versions stood for, update n now has the second trail in place of the first.
   abbrev pub Replaces : ℕ → List Change → List Change → Kept → Kept → Type 0
   Replaces n ws vs old new =
       (E : List Fact) (before after : ℕ → List Change) → StandFor old E before → before n ≡ ws → after n ≡ vs → SameBut n before after → StandFor new E after
