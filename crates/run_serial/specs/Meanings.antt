@@ -63,8 +63,8 @@ HasKept D writes outcome D' =
 abbrev pub HasEnded : Attempt → Listed Finish → Listed Finish → Type 0
 HasEnded P fs fs' = (n : ℕ) → HasFinished n P (finishes_of fs) (finishes_of fs')
 
--- The turn of update n is over. With the new finishes and D', the result of the later updates completes what the old finishes
--- and D were to give with update n and those.
+-- The turn of update n is over. The old finishes, and then the result of update n and the later ones over D, are the new finishes,
+-- and then the result of the later ones over D'.
 abbrev pub HasTaken : List Rule → ℕ → ℕ → SessionUpdate → Listed Finish → List Fact → Listed Finish → List Fact → Option Stop → Type 0
 HasTaken ms B n u fs D fs' D' stop =
     (rs : List Request) → behind (finishes_of fs) (told_from ms B D n (request_of (update_of u) ∷ rs))

@@ -83,8 +83,8 @@ IsTrail writes outcome trail =
 abbrev pub HasLeft : Attempt → Listed (Listed Write) → Listed (Listed Write) → Type 0
 HasLeft P ts ts' = (ms : List Rule) (B : ℕ) → trails_of ts' ≡ trails_of ts ++ shown (caused_chase ms B) P ∷ []
 
--- The turn of update n is over. With the new trails and D', what the later updates leave completes what the old trails and D
--- were to give with update n and those.
+-- The turn of update n is over. The old trails, and then what update n and the later ones leave over D, are the new trails, and
+-- then what the later ones leave over D'.
 abbrev pub HasTrailed : List Rule → ℕ → ℕ → SessionUpdate → Listed (Listed Write) → List Fact → Listed (Listed Write) → List Fact → Option Stop → Type 0
 HasTrailed ms B n u ts D ts' D' stop =
     (rs : List Request) → behind (trails_of ts) (trailed_from ms B D n (request_of (update_of u) ∷ rs))
