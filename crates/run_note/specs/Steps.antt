@@ -43,7 +43,7 @@ step_of ms D P c = step_by ms D P c (move_of ms D P c)
 abbrev pub HasChanged : Step → Changed → Type 0
 HasChanged s c = (facts_of c.deleted ≡ (note s).deleted) × (facts_of c.puts ≡ (note s).puts)
 
--- The test holds if that is wanted, or fails if that is wanted.
+-- The test holds if `true` is wanted, and fails if `false` is wanted.
 abbrev pub is_so : Bool → Bool → Bool
 is_so true b = b
 is_so false b = not b
