@@ -64,8 +64,8 @@ abbrev pub noted_after : List Rule → ℕ → List Fact → ℕ → List Reques
 noted_after ms B D n rs None = noted_from ms B D n rs
 noted_after ms B D n rs (Some s) = []
 
--- The turn of update n is over. With the new notes and D', what is noted of the later updates completes what the old notes and
--- D were to give with update n and those.
+-- The turn of update n is over. The old notes, and then those of update n and the later ones over D, are the new notes, and then
+-- those of the later ones over D'.
 abbrev pub HasNotedTurn : List Rule → ℕ → ℕ → SessionUpdate → Listed Note → List Fact → Listed Note → List Fact → Option Stop → Type 0
 HasNotedTurn ms B n u ns D ns' D' stop =
     (rs : List Request) → notes_in ns ++ noted_from ms B D n (request_of (update_of u) ∷ rs)
