@@ -76,8 +76,8 @@ impl<'a> Cascade<'a> {
         Ok(found)
     }
 
-    // Why each of the updates above is restarted, if it is, if these writes came or went and these trails are lost below them.
-    // Only the first `readers` of them may have read something.
+    // Why each of the updates above is restarted, if it is, given these writes that came or went and these trails that are lost
+    // below. Only the first `readers` of the updates may have read something.
     fn walk<'r>(
         &self,
         alloc: Global,
@@ -161,7 +161,7 @@ fn put_where(
     Ok(())
 }
 
-// Adds none up to the place.
+// Fills up to the place with no cause.
 fn pad(found: &mut Vec<Option<Cause>>, place: usize) -> Result<(), Memory>
     requires few { length found.old.items ≤ place }
     ensures padded { OnOk result (found.new.items ≡ padded place found.old.items) }
