@@ -1,4 +1,4 @@
--- Impacts: a summary of writes, which tells what an attempt must have written or asked for so that one of them may meet a read.
+-- Impacts: a summary of writes, which says what an attempt must have written or asked for so that one of them may meet a read.
 use Rattle.std.specs.Prelude.{◌≡◌, ℕ, suc, ◌==◌, Bool, true, false, not, ◌&&◌, ◌||◌, List, [], ◌∷◌, find, Option, Some, None}
 use Rattle.std.specs.Option.{option_map}
 use Rattle.std.specs.List.{list_any, list_all}
