@@ -99,7 +99,7 @@ IsInstalled k plan fresh rs rs' =
     (ms : List Rule) (B : ℕ) (D : List Fact) (r : QueuedUpdate) (xs : List (Option (Cause (caused_chase ms B)))) → slice_get rs k ≡ Some r → IsPlanOf ms B D r plan → map is_some xs ≡ map is_some fresh
     → updates_of ms B rs' ≡ take k (updates_of ms B rs) ++ stepped (caused_chase ms B) D (update_of ms B r) ∷ restart (caused_chase ms B) (suc (suc k)) xs (drop (suc k) (updates_of ms B rs))
 
--- The entry tells a step of the update at the place, by this attempt, with these writes and causes.
+-- The entry records a step of the update at the place, by this attempt, with these writes and causes.
 abbrev pub TellsStep : Settings → ℕ → ℕ → Listed Write → Listed CauseOfProgram → List QueuedUpdate → Entry → Type 0
 TellsStep s k attempt writes causes rs e =
     (ms : List Rule) (B : ℕ) (r : QueuedUpdate) → slice_get rs k ≡ Some r
@@ -112,7 +112,7 @@ TellsStep s k attempt writes causes rs e =
       committed = committed (caused_chase ms B) (updates_of ms B rs);
     })
 
--- The entry tells a delivery to the update at the place.
+-- The entry records a delivery to the update at the place.
 abbrev pub TellsDelivery : Settings → ℕ → List QueuedUpdate → Entry → Type 0
 TellsDelivery s k rs e =
     (ms : List Rule) (B : ℕ) (r : QueuedUpdate) → slice_get rs k ≡ Some r
