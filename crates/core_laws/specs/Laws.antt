@@ -28,16 +28,16 @@ pub record Keeps (g : Ground) (H H' : List PlainEntry) : Type 0 where
   pub recorded : AreRecorded g H → AreRecorded g H'
   pub count : length (updates_after g H') ≡ length (updates_after g H)
 
--- A turn keeps this, and leaves less work.
+-- A turn keeps what `Keeps` says, and leaves less work.
 pub record IsTurn (g : Ground) (H H' : List PlainEntry) : Type 0 where
   pub keeps : Keeps g H H'
   pub less : suc (work_after g H') ≤ work_after g H
 
--- Each turn after a legal history is such a turn.
+-- Each turn after a legal history keeps what `Keeps` says, and leaves less work.
 abbrev pub TurnLaw : Type 0
 TurnLaw = (g : Ground) (H H' : List PlainEntry) → 1 ≤ g.budget → IsRepository g.base → IsLegalOver g H → turned g H ≡ Some H' → IsTurn g H H'
 
--- Any number of turns keeps this.
+-- Any number of turns keeps what `Keeps` says.
 abbrev pub TurnsLaw : Type 0
 TurnsLaw = (g : Ground) (n : ℕ) (H H' : List PlainEntry) → 1 ≤ g.budget → IsRepository g.base → IsLegalOver g H → after_turns g n H ≡ Some H' → Keeps g H H'
 
