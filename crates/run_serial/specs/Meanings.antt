@@ -45,15 +45,15 @@ abbrev pub RestsWhole : List Rule → ℕ → List Fact → ℕ → SessionUpdat
 RestsWhole ms B D n u rest =
     whole_rest ms B D (turn_of ms B n (request_of (update_of u))) ≡ (rest.program.attempt, option_map lack_of rest.lack)
 
--- The first of the changes have been made in D, and none of the others.
+-- Some of the changes, from the first on, have been made in D, and none of the others.
 abbrev pub HasMadeSome : List Fact → List Change → List Fact → Type 0
 HasMadeSome D changes D' = (some : List Change) × (others : List Change) × (changes ≡ some ++ others) × (D' ≡ apply D some)
 
--- The writes that the attempt shows, which has ended, have been made in D.
+-- The writes that the ended attempt shows have been made in D.
 abbrev pub HasCommitted : List Fact → Attempt → List Fact → Type 0
 HasCommitted D P D' = (ms : List Rule) (B : ℕ) → D' ≡ apply D (shown (caused_chase ms B) P)
 
--- The writes that any attempt shows with these own writes that has ended so have been made in D.
+-- For any attempt with these own writes that has ended so, the writes that it shows have been made in D.
 abbrev pub HasKept : List Fact → Listed Write → Outcome → List Fact → Type 0
 HasKept D writes outcome D' =
     (ms : List Rule) (B : ℕ) (P : Attempt) → changes_of writes ≡ P.own → option_map end_in (outcome_in P.phase) ≡ Some (end_of outcome)
@@ -63,8 +63,8 @@ HasKept D writes outcome D' =
 abbrev pub HasEnded : Attempt → Listed Finish → Listed Finish → Type 0
 HasEnded P fs fs' = (n : ℕ) → HasFinished n P (finishes_of fs) (finishes_of fs')
 
--- The turn of update n is over. The old finishes, and then the result of update n and the later ones over D, are the new finishes,
--- and then the result of the later ones over D'.
+-- The turn of update n is over. The old finishes, and then the result of update n and the later ones over D, are the new
+-- finishes, and then the result of the later ones over D'.
 abbrev pub HasTaken : List Rule → ℕ → ℕ → SessionUpdate → Listed Finish → List Fact → Listed Finish → List Fact → Option Stop → Type 0
 HasTaken ms B n u fs D fs' D' stop =
     (rs : List Request) → behind (finishes_of fs) (told_from ms B D n (request_of (update_of u) ∷ rs))

@@ -67,8 +67,8 @@ fn stop_at(alloc: Global, program: &Attempt, number: u32, lack: Lack) -> Result<
     }
 }
 
-/// Adds the finish of an update that has ended, and makes its writes. On an error the finishes are unchanged, and the first of
-/// the writes may have been made.
+/// Adds the finish of an update that has ended, and makes the writes that it shows. On an error the finishes are unchanged, and
+/// some of the writes, from the first on, may have been made.
 pub fn end(
     alloc: Global,
     finishes: &mut FinishList,

@@ -11,8 +11,8 @@ use chase_update::Outcome;
 use set_facts::IndexedFacts;
 use std::alloc::Global;
 
-/// Makes the writes of an update that has ended so, if it is done; else makes none. On an error the first of them may have been
-/// made.
+/// Makes the writes of an update that has ended so, if it is done; else makes none. On an error some of them, from the first
+/// on, may have been made.
 pub(crate) fn keep(
     facts: &mut IndexedFacts,
     writes: WriteList,

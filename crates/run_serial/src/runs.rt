@@ -95,8 +95,8 @@ fn run(
     })
 }
 
-// Takes the updates whole in turn, up to the first that stops, and returns its stop. Their finishes are added, and their writes
-// made.
+// Takes the updates whole in turn, up to the first that stops, and returns its stop. Their finishes are added, and the writes
+// that they show are made.
 fn take_all(
     alloc: Global,
     finishes: &mut FinishList,
@@ -120,8 +120,8 @@ fn take_all(
     Ok(None)
 }
 
-// The turn of the update of this number. It is taken whole: if it ends, its finish is added and its writes are made; else it
-// stops.
+// The turn of the update of this number. It is taken whole: if it ends, its finish is added and the writes that it shows are
+// made; else it stops.
 fn turn(
     alloc: Global,
     finishes: &mut FinishList,
