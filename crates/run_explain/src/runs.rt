@@ -171,7 +171,7 @@ fn close(
     }
 }
 
-// Adds the finish of an update that has ended, makes its writes, and, if it is done, adds its notes.
+// Adds the finish of an update that has ended, makes the writes that it shows, and, if it is done, adds its notes.
 fn ended(
     alloc: Global,
     finishes: &mut FinishList,
