@@ -13,7 +13,7 @@ use base_types::{List, Memory, Name};
 use lang_schema::{Names, Schema, SchemaRefusal, numbered_atoms};
 use std::alloc::Global;
 
-// The place of a name among the variables, or their number if it is none of them.
+// The place of a name among the variables, or the number of variables if it is none of them.
 fn place_of(variables: &Names, name: &Name) -> usize
     ensures { result ≡ place_of variables.now.items name.now.items }
 {
