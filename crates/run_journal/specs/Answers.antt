@@ -51,7 +51,7 @@ answer_of journal n (Err rolling.DiskFault) = Err appending.DiskFault
 answer_of journal n (Err rolling.DiskMemory) = Err appending.DiskMemory
 answer_of journal n (Err (rolling.Memory roll)) = Err (appending.Memory journal)
 
--- the handle is that of the journal that the bytes are, and D is the repository of the session with its commits
+-- the `Hold` is that of the journal that the bytes are, and D is the repository of the session with its commits
 pub record IsHeld (bytes : List ℕ) (s : SessionData) (hold : Hold) (D : List Fact) : Type 0 where
   pub commits : List (List Change)
   pub journal : IsJournal s commits bytes

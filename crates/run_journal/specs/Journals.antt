@@ -25,12 +25,12 @@ IsWhole bytes = (s : SessionData) × (commits : List (List Change)) × IsJournal
 abbrev pub gate_of : SessionData → List (List Change) → ℕ
 gate_of s commits = length (front s commits)
 
--- the handle of a journal: the place of its gate, and how many commits stand before it
+-- what is kept of a journal: the place of its gate, and how many commits stand before it
 pub record Hold : Type 0 where
   pub gate : ℕ
   pub commits : ℕ
 
--- The handle is that of the journal on the disk: the journal is there whole, and nothing is pending.
+-- The `Hold` is that of the journal on the disk: the journal is there whole, and nothing is pending.
 pub record IsAt (disk : State) (s : SessionData) (commits : List (List Change)) (hold : Hold) : Type 0 where
   pub journal : IsJournal s commits disk.bytes
   pub settled : IsSettled disk
@@ -46,6 +46,6 @@ after_commits D (writes ∷ commits) = after_commits (apply D writes) commits
 abbrev pub repository_of : SessionData → List (List Change) → List Fact
 repository_of s commits = after_commits s.base commits
 
--- the handle is that of a journal on the disk with some commits
+-- the `Hold` is that of a journal on the disk with some commits
 abbrev pub IsInHand : State → SessionData → Hold → Type 0
 IsInHand disk s hold = (commits : List (List Change)) × IsAt disk s commits hold

@@ -1,4 +1,4 @@
-// The types of a journal: its handle, a commit, what is recovered, and what may go wrong.
+// What is kept of a journal, what goes into it, what comes out of it, and what may go wrong.
 
 use base_devices::DiskRefusal;
 use base_roll::Roll;
@@ -6,7 +6,7 @@ use base_types::{Memory, TupleList, WriteList};
 use lang_session::Session;
 use std::marker::Model;
 
-/// The handle of a journal on a disk: the place of its gate, and how many commits stand before the gate.
+/// What the program keeps of a journal on a disk: the place of its gate, and how many commits stand before it.
 #[derive(Debug, Drop)]
 pub struct Journal {
     pub(crate) gate: usize,
@@ -40,7 +40,7 @@ pub struct Commit {
 }
 
 /// What a journal stands for: its session, how many commits it has, the repository that they make of the session's base, and
-/// the handle for further commits.
+/// what the next append needs.
 #[derive(Drop)]
 pub struct Recovered {
     pub session: Session,
@@ -49,7 +49,7 @@ pub struct Recovered {
     pub journal: Journal,
 }
 
-/// Why no journal was made. After `DiskFault` or `Memory` the disk must not be used any more.
+/// Why no journal was made. After `DiskFault` or `Memory` the disk must be given up.
 #[derive(Clone, Copy, Debug, PartialEq, Eq)]
 pub enum CreateFault {
     /// The session's printed form has this number of bytes, which is too many. The disk is unchanged.

@@ -306,8 +306,8 @@ fn read_opening(alloc: Global, payload: &[u8]) -> Result<Option<Session>, Memory
     }
 }
 
-// The handle of the journal whose commits the records are, up to the first gate that is closed. The commits are made in
-// `facts`, which is the base before.
+// The `Journal` whose commits the records are, up to the first gate that is not open. The commits are made in `facts`, which is
+// the base before.
 fn read_commits(
     alloc: Global,
     session: &Session,
@@ -342,7 +342,7 @@ fn read_commits(
     }
 }
 
-// The handle of the journal, and the repository that its commits make of the session's base.
+// The `Journal`, and the repository that its commits make of the session's base.
 fn read_records(
     alloc: Global,
     session: &Session,
