@@ -16,7 +16,7 @@ use Rattle.lang_report.specs.Saved.{is_too_large, saved, stays_in_force}
 abbrev pub left_by : ℕ → SessionData → List Fact
 left_by budget s = (serial_told budget s).repository
 
--- Every mapping that is in force at the end of a session's result holds in the repository of the result.
+-- Every mapping that is in force at the end of the run, by its result, holds in the repository of the result.
 abbrev pub InForceHold : SessionData → ResultTold → Type 0
 InForceHold s told =
     (n : ℕ) (m : SessionMapping) → slice_get s.mappings n ≡ Some m → stays_in_force told.finishes m ≡ true → Holds m.rule told.repository

@@ -29,7 +29,7 @@ pub fn runs_leave_facts()
         IsSession s → 1 ≤ budget → budget ≤ 1000001 → IsRepository (left_by budget s) }
 {}
 
-/// The saved session of a run is a session, if it is not too large, and its printed form spells it.
+/// If the saved session of a run is not too large, it is a session, and its printed form spells it.
 pub fn saved_sessions_are_sessions()
     ensures session { (budget : ℕ) (s : SessionData) →
         IsSession s → 1 ≤ budget → budget ≤ 1000001 → SavesSession budget s }
