@@ -25,7 +25,7 @@ abbrev pub standing_in : Slot → List (Slot × Datum) → Option Datum
 standing_in (Var v) ps = value_in v ps
 standing_in (Const c) ps = None
 
--- That value with its column, or else the next key.
+-- The value with column k, if there is one; else the next key.
 abbrev pub key_or : ℕ → Option Datum → Option (ℕ × Datum) → Option (ℕ × Datum)
 key_or k (Some d) next = Some (k, d)
 key_or k None next = next
