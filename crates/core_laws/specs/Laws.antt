@@ -18,7 +18,7 @@ use Rattle.lang_session.specs.Base.{base_violation}
 use Rattle.lang_session.specs.Meanings.{requests_in}
 use Rattle.core_laws.specs.Turns.{turned, after_turns, work_after, is_quiet_after}
 
--- Its events are only admissions, steps and deliveries.
+-- The history's events are only admissions, steps and deliveries.
 abbrev pub AreRecorded : Ground → List PlainEntry → Type 0
 AreRecorded g H = list_all is_recorded (map event_of (entries_over g H)) ≡ true
 
