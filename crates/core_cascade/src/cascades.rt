@@ -16,9 +16,8 @@ use core_queue::{Deps, QueuedUpdate};
 use set_versions::Versions;
 use std::alloc::Global;
 
-/// What a walk upwards from the update of an event depends on: the mappings, how dependences are tested, how many updates were
-/// committed when the event began, the update's number, whether the writes of the event came or went, and the versions after
-/// them.
+/// What a walk upwards from the update of an event depends on: the mappings, the test of dependences, how many updates were
+/// committed before the event, the update's number, whether the event's writes came or went, and the versions after them.
 #[derive(Drop)]
 pub struct Cascade<'a> {
     pub mappings: &'a Mappings<'a>,
@@ -142,7 +141,7 @@ fn passes(impact: &Impact, lost: &Lost<'_>, reader: &QueuedUpdate) -> bool
         .may_be_met(reader.program.direction(), impact)
 }
 
-// Puts the cause, if there is one, in its place after those that were found; between them there is none.
+// Puts the cause, if there is one, in its place after the causes that were found; the places between have none.
 fn put_where(
     found: &mut Vec<Option<Cause>>,
     place: usize,
