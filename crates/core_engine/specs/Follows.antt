@@ -34,7 +34,7 @@ use Rattle.core_engine.specs.Planned.{PlanMeant, IsSomeThat, IsStepAmong}
 use Rattle.core_engine.specs.Steps.{IsStepLeft}
 use Rattle.core_engine.specs.declared.stepping.Prepared.{Prepared}
 
--- The event was allowed after the entries; these parts are those of a core with its entry after them.
+-- The event was allowed after the entries; a core with its entry after them has these parts.
 pub record Follows (g : Ground) (e : Event (machine g)) (H : List PlainEntry) (v : Kept) (rs : List QueuedUpdate) (H' : List PlainEntry) : Type 0 where
   pub grows : grown g H e ≡ Some H'
   pub kept : IsKept g v rs H'

@@ -79,7 +79,7 @@ ShowsStep r plan old new =
     (ms : List Rule) (B : ℕ) (D : List Fact) (s : Settings) (c n : ℕ) → MayStep ms B s c n r → IsPlanOf ms B D r plan
     → Replaces ms B r.program.attempt.number (trail (caused_chase ms B) (update_of ms B r)) (trail (caused_chase ms B) (stepped (caused_chase ms B) D (update_of ms B r))) old new
 
--- In any such history: before and after the step the same tuples lie above the update, except those of these writes.
+-- In any such history: before and after the step the same tuples lie above the update, except the tuples of these writes.
 abbrev pub HasTurned : QueuedUpdate → Plan → Sense → List Write → Type 0
 HasTurned r plan g ws =
     (ms : List Rule) (B : ℕ) (D E : List Fact) (s : Settings) (c n : ℕ) → MayStep ms B s c n r → IsPlanOf ms B D r plan → IsRepository E

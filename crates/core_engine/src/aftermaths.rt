@@ -89,7 +89,7 @@ fn in_order(alloc: Global, found: Vec<Option<Cause>>) -> Result<CauseList, Memor
     Ok(conflicts)
 }
 
-// Puts the cause, if there is one, after those of its kind.
+// Puts the cause, if there is one, after the others of its kind.
 fn put(
     conflicts: &mut CauseList,
     dependences: &mut CauseList,
