@@ -10,12 +10,12 @@ use Rattle.set_versions.specs.Standing.{Kept, StandFor, seen}
 use Rattle.set_versions.specs.Trails.{numbered}
 
 module _ (ms : List Rule) (B : ℕ) where
-  -- The trails from number n on are those of the updates.
+  -- The trails from number n on are the trails of the updates.
   abbrev pub AreTrails : (ℕ → List Change) → ℕ → List (Update (caused_chase ms B)) → Type 0
   AreTrails trails n [] = Unit {0}
   AreTrails trails n (u ∷ us) = (trails n ≡ trail (caused_chase ms B) u) × AreTrails trails (suc n) us
 
-  -- The versions are those of a history's updates over D, in number order from 1.
+  -- The versions are of a history's updates over D, in number order from 1.
   pub record AreVersions (D : List Fact) (us : List (Update (caused_chase ms B))) (v : Kept) : Type 0 where
     pub sorted : IsRepository D
     pub stand : StandFor v D (numbered (trail (caused_chase ms B)) us)

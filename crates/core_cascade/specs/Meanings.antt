@@ -16,8 +16,8 @@ use Rattle.def_steps.specs.Chase.{caused_chase}
 use Rattle.set_versions.specs.Standing.{Kept}
 use Rattle.core_cascade.specs.declared.cascades.Cascade.{Cascade}
 
--- What a walk upwards depends on: the mappings, how dependences are tested, how many updates were committed when the event
--- began, the number of the event's update, whether the writes of the event came or went, and the versions with all trails.
+-- What a walk upwards depends on: the mappings, the test of dependences, how many updates were committed before the event, and
+-- the number of the event's update. Also whether the event's writes came or went, and the versions with all trails.
 pub record Above : Type 0 where
   pub rules : List Rule
   pub deps : Deps

@@ -16,9 +16,8 @@ use core_queue::{Deps, QueuedUpdate};
 use set_versions::Versions;
 use std::alloc::Global;
 
-/// What a walk upwards from the update of an event depends on: the mappings, how dependences are tested, how many updates were
-/// committed when the event began, the update's number, whether the writes of the event came or went, and the versions after
-/// them.
+/// What a walk upwards from the update of an event depends on: the mappings, the test of dependences, how many updates were
+/// committed before the event, the update's number, whether the event's writes came or went, and the versions after them.
 #[derive(Drop)]
 pub struct Cascade<'a> {
     pub mappings: &'a Mappings<'a>,
@@ -76,8 +75,8 @@ impl<'a> Cascade<'a> {
         Ok(found)
     }
 
-    // Why each of the updates above is restarted, if it is, if these writes came or went and these trails are lost below them.
-    // Only the first `readers` of them may have read something.
+    // Why each of the updates above is restarted, if it is, given these writes that came or went and these trails that are lost
+    // below. Only the first `readers` of the updates may have read something.
     fn walk<'r>(
         &self,
         alloc: Global,
@@ -142,7 +141,7 @@ fn passes(impact: &Impact, lost: &Lost<'_>, reader: &QueuedUpdate) -> bool
         .may_be_met(reader.program.direction(), impact)
 }
 
-// Puts the cause, if there is one, in its place after those that were found; between them there is none.
+// Puts the cause, if there is one, in its place after the causes that were found; the places between have none.
 fn put_where(
     found: &mut Vec<Option<Cause>>,
     place: usize,
@@ -161,7 +160,7 @@ fn put_where(
     Ok(())
 }
 
-// Adds none up to the place.
+// Fills up to the place with no cause.
 fn pad(found: &mut Vec<Option<Cause>>, place: usize) -> Result<(), Memory>
     requires few { length found.old.items ≤ place }
     ensures padded { OnOk result (found.new.items ≡ padded place found.old.items) }

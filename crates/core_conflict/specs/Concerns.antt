@@ -1,4 +1,4 @@
--- Which writes may change the value of a read, and which repositories have the same tuples except those of certain writes.
+-- Which writes may change the value of a read, and which repositories have the same tuples except the tuples of certain writes.
 use Rattle.std.specs.Prelude.{◌≡◌, ℕ, ◌==◌, Bool, true, false, not, ◌&&◌, ◌||◌, if◌then◌else◌, List, take, length, Option, Some, None}
 use Rattle.std.specs.List.{list_any, list_all, zip, slice_get}
 use Rattle.def_chase.specs.Values.{Datum, Fact, same_datum, same_fact}
@@ -193,15 +193,15 @@ adds_it g t w = adds g w && same_fact (tuple_of w) t
 abbrev pub takes_it : Sense → Fact → Change → Bool
 takes_it g t w = not (adds g w) && same_fact (tuple_of w) t
 
--- The two repositories have the same tuples except those of the writes of these trails. A tuple that only the second has is
--- there since a write of it came or went. A tuple that only the first has was there before.
+-- The two repositories have the same tuples except the tuples of the writes of these trails. A tuple that only the second has
+-- is there since a write of it came or went. A tuple that only the first has was there before.
 pub record AgreeBut (g : Sense) (trails : List (List Change)) (D E : List Fact) : Type 0 where
   pub sorted : IsRepository D
   pub also : IsRepository E
   pub since : (t : Fact) → is_hit (adds_it g t) trails ≡ false → has E t ≡ true → has D t ≡ true
   pub before : (t : Fact) → is_hit (takes_it g t) trails ≡ false → has D t ≡ true → has E t ≡ true
 
--- If a read's reply is the value of its query over the first repository, with the own writes made until then, and no write of
+-- Let a read's reply be the value of its query over the first repository, with the own writes made until then. If no write of
 -- the trails meets it, the reply is the value over the second one too.
 abbrev pub UnmetValuesStay : Type 0
 UnmetValuesStay =

@@ -1,4 +1,4 @@
--- Impacts: a summary of writes, which tells what an attempt must have written or asked for so that one of them may meet a read.
+-- Impacts: a summary of writes, which says what an attempt must have written or asked for so that one of them may meet a read.
 use Rattle.std.specs.Prelude.{◌≡◌, ℕ, suc, ◌==◌, Bool, true, false, not, ◌&&◌, ◌||◌, List, [], ◌∷◌, find, Option, Some, None}
 use Rattle.std.specs.Option.{option_map}
 use Rattle.std.specs.List.{list_any, list_all}
@@ -25,7 +25,7 @@ abbrev pub standing_in : Slot → List (Slot × Datum) → Option Datum
 standing_in (Var v) ps = value_in v ps
 standing_in (Const c) ps = None
 
--- That value with its column, or else the next key.
+-- The value with column k, if there is one; else the next key.
 abbrev pub key_or : ℕ → Option Datum → Option (ℕ × Datum) → Option (ℕ × Datum)
 key_or k (Some d) next = Some (k, d)
 key_or k None next = next

@@ -9,7 +9,7 @@ use Rattle.core_conflict.specs.declared.signatures.Signature.{Signature}
 abbrev pub has_spot : Signature → ℕ → Bool
 has_spot s k = (bit_at s.low (k / 128) == 1) && (bit_at s.high (k % 128) == 1)
 
--- The spots of the first are among those of the second.
+-- The second set has the spots of the first.
 abbrev pub IsWithin : Signature → Signature → Type 0
 IsWithin s t = (k : ℕ) → has_spot s k ≡ true → has_spot t k ≡ true
 

@@ -17,8 +17,8 @@ use crate::signatures::{Signature, home, spot};
 use base_types::{Direction, Tuple, Value, Write};
 use chase_query::{Logged, LoggedRead, Query, Reply};
 
-/// A summary of an attempt's writes and reads: the spots of the values that it wrote (`own`) and asked for (`asked`), whether
-/// it found a violation, and whether any write at all may meet one of its reads (`exposed`).
+/// A summary of an attempt's writes and reads: the spots of the values that it wrote (`own`) and asked for (`asked`), and
+/// whether it found a violation. `exposed`: any write at all may meet one of its reads.
 #[derive(Clone, Copy, Debug)]
 pub struct Footprint {
     pub(crate) exposed: bool,

@@ -1,5 +1,4 @@
-//! Impacts: a summary of writes, which tells what an attempt must have written or asked for so that one of them may meet a
-//! read.
+//! Impacts: a summary of writes, which says what an attempt must have written or asked for so that one of them may meet a read.
 ghost use Rattle.std.specs.Prelude.{◌≡◌, ◌==◌, ◌||◌, true, map};
 ghost use Rattle.std.specs.Option.{option_map, option_copied};
 ghost use Rattle.std.specs.List.{list_all, zip};

@@ -2,8 +2,8 @@
 ghost use Rattle.core_conflict.specs.Concerns.{UnmetValuesStay};
 ghost use Rattle.core_conflict.specs.Rows.{ConcernRows};
 
-/// A read that no write meets keeps its value. Let two repositories have the same tuples except those of the writes. If the
-/// read's reply is the value of its query over the first, it is also the value over the second.
+/// A read that no write meets keeps its value. Let two repositories have the same tuples except the tuples of the writes. If
+/// the read's reply is the value of its query over the first, it is also the value over the second.
 pub fn unmet_values_stay()
     ensures { UnmetValuesStay }
 {}

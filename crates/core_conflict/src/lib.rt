@@ -1,7 +1,7 @@
 //! Whether the reads that an attempt has logged still have their values over what lies below it now.
 //!
-//! Between two moments writes came or went below the attempt. By the law `unmet_values_stay`, a read that no such write meets
-//! keeps its value. Only the other reads are evaluated again.
+//! Between two moments writes came or went below the attempt. By the law `unmet_values_stay`, a read that none of these writes
+//! meets keeps its value. Only the other reads are evaluated again.
 #![tactic(auto)]
 
 mod changes;

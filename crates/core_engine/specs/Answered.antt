@@ -18,7 +18,7 @@ use Rattle.set_versions.specs.Standing.{Kept}
 use Rattle.core_engine.specs.Follows.{Follows, ground_with}
 use Rattle.core_engine.specs.Kept.{IsKept}
 
--- The entry tells this answer to the update at the place.
+-- The entry records this answer to the update at the place.
 abbrev pub TellsAnswer : Settings → ℕ → Choice → List QueuedUpdate → Entry → Type 0
 TellsAnswer s k c rs e =
     (ms : List Rule) (B : ℕ) (r : QueuedUpdate) → slice_get rs k ≡ Some r

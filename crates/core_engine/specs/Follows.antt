@@ -34,7 +34,7 @@ use Rattle.core_engine.specs.Planned.{PlanMeant, IsSomeThat, IsStepAmong}
 use Rattle.core_engine.specs.Steps.{IsStepLeft}
 use Rattle.core_engine.specs.declared.stepping.Prepared.{Prepared}
 
--- The event was allowed after the entries; these parts are those of a core with its entry after them.
+-- The event was allowed after the entries; a core with its entry after them has these parts.
 pub record Follows (g : Ground) (e : Event (machine g)) (H : List PlainEntry) (v : Kept) (rs : List QueuedUpdate) (H' : List PlainEntry) : Type 0 where
   pub grows : grown g H e ≡ Some H'
   pub kept : IsKept g v rs H'
@@ -64,6 +64,7 @@ pub record IsPlanFor (r : QueuedUpdate) (plan : Plan) : Type 0 where
 abbrev pub HasRoomAt : ℕ → Plan → List QueuedUpdate → Type 0
 HasRoomAt k plan rs = IsSomeThat (λ (r : QueuedUpdate). HasRoomFor plan r) (slice_get rs k)
 
+-- There is a queued update at the place, and the plan is that of a step of it.
 abbrev pub IsPlanAt : ℕ → Plan → List QueuedUpdate → Type 0
 IsPlanAt k plan rs = IsSomeThat (λ (r : QueuedUpdate). IsPlanFor r plan) (slice_get rs k)
 
@@ -98,7 +99,7 @@ IsInstalled k plan fresh rs rs' =
     (ms : List Rule) (B : ℕ) (D : List Fact) (r : QueuedUpdate) (xs : List (Option (Cause (caused_chase ms B)))) → slice_get rs k ≡ Some r → IsPlanOf ms B D r plan → map is_some xs ≡ map is_some fresh
     → updates_of ms B rs' ≡ take k (updates_of ms B rs) ++ stepped (caused_chase ms B) D (update_of ms B r) ∷ restart (caused_chase ms B) (suc (suc k)) xs (drop (suc k) (updates_of ms B rs))
 
--- The entry tells a step of the update at the place, by this attempt, with these writes and causes.
+-- The entry records a step of the update at the place, by this attempt, with these writes and causes.
 abbrev pub TellsStep : Settings → ℕ → ℕ → Listed Write → Listed CauseOfProgram → List QueuedUpdate → Entry → Type 0
 TellsStep s k attempt writes causes rs e =
     (ms : List Rule) (B : ℕ) (r : QueuedUpdate) → slice_get rs k ≡ Some r
@@ -111,7 +112,7 @@ TellsStep s k attempt writes causes rs e =
       committed = committed (caused_chase ms B) (updates_of ms B rs);
     })
 
--- The entry tells a delivery to the update at the place.
+-- The entry records a delivery to the update at the place.
 abbrev pub TellsDelivery : Settings → ℕ → List QueuedUpdate → Entry → Type 0
 TellsDelivery s k rs e =
     (ms : List Rule) (B : ℕ) (r : QueuedUpdate) → slice_get rs k ≡ Some r

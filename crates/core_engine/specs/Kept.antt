@@ -1,4 +1,4 @@
--- What is true of the parts of a core: the queue and the versions are those that its history left.
+-- What is true of the parts of a core: its history left the queue and the versions.
 use Rattle.std.specs.Prelude.{◌≡◌, ℕ, ◌+◌, ◌-◌, ◌≤◌, ◌<◌, ◌^◌, List, map, length}
 use Rattle.def_machine.specs.Updates.{Settings, Update, trail}
 use Rattle.def_chase.specs.Mappings.{Rule}
@@ -31,7 +31,7 @@ HaveTrails ms B D us v = StandFor v D (numbered (trail (caused_chase ms B)) us)
 
 -- The queue and the versions are what the entries left.
 pub record IsKept (g : Ground) (v : Kept) (rs : List QueuedUpdate) (H : List PlainEntry) : Type 0 where
-  -- the updates are those of the history
+  -- the updates are the history's
   pub left : Leave g H (updates_of g.rules g.budget rs)
   -- each stands between two steps, and has the number of its place
   pub numbers : AreFrom 1 rs

@@ -41,7 +41,7 @@ module _ (ms : List Rule) (B : ℕ) where
   abbrev pub MayStep : Settings → ℕ → ℕ → QueuedUpdate → Type 0
   MayStep s c n r = is_ready (standing (caused_chase ms B) s c n (update_of ms B r)) ≡ true
 
-  -- Whatever the versions stood for, they have now the second trail in place of the first for update n.
+  -- Whatever the versions stood for, update n now has the second trail in place of the first.
   abbrev pub Replaces : ℕ → List Change → List Change → Kept → Kept → Type 0
   Replaces n ws vs old new =
       (E : List Fact) (before after : ℕ → List Change) → StandFor old E before → before n ≡ ws → after n ≡ vs → SameBut n before after → StandFor new E after
@@ -79,7 +79,7 @@ ShowsStep r plan old new =
     (ms : List Rule) (B : ℕ) (D : List Fact) (s : Settings) (c n : ℕ) → MayStep ms B s c n r → IsPlanOf ms B D r plan
     → Replaces ms B r.program.attempt.number (trail (caused_chase ms B) (update_of ms B r)) (trail (caused_chase ms B) (stepped (caused_chase ms B) D (update_of ms B r))) old new
 
--- In any such history: before and after the step the same tuples lie above the update, except those of these writes.
+-- In any such history: before and after the step the same tuples lie above the update, except the tuples of these writes.
 abbrev pub HasTurned : QueuedUpdate → Plan → Sense → List Write → Type 0
 HasTurned r plan g ws =
     (ms : List Rule) (B : ℕ) (D E : List Fact) (s : Settings) (c n : ℕ) → MayStep ms B s c n r → IsPlanOf ms B D r plan → IsRepository E

@@ -27,7 +27,8 @@ pub record IsReadySomewhere (r : QueuedUpdate) : Type 0 where
   pub number : ℕ
   pub ready : is_ready (standing (caused_chase rules budget) settings committed number (update_of rules budget r)) ≡ true
 
--- The versions have the writes of its attempt, whose reads are valid over what it sees; and its number is not the last one.
+-- The versions have the writes of its attempt, whose reads are valid over what it sees; and its number is not the greatest of
+-- 32 bits.
 pub record IsHeldBy (ms : List Rule) (v : Kept) (r : QueuedUpdate) : Type 0 where
   pub applied : seen (suc r.program.attempt.number) v ≡ apply (seen r.program.attempt.number v) r.program.attempt.own
   pub few : r.program.attempt.number + 1 < 2 ^ 32

@@ -68,7 +68,7 @@ IsRemoved k fresh rs rs' =
     (ms : List Rule) (B : ℕ) (r : QueuedUpdate) (xs : List (Option (Cause (caused_chase ms B)))) → slice_get rs k ≡ Some r → map is_some xs ≡ map is_some fresh
     → updates_of ms B rs' ≡ take k (updates_of ms B rs) ++ withdrawn_now (caused_chase ms B) (update_of ms B r) ∷ restart (caused_chase ms B) (suc (suc k)) xs (drop (suc k) (updates_of ms B rs))
 
--- The entry tells the withdrawal of update k + 1, with these causes.
+-- The entry records the withdrawal of update k + 1, with these causes.
 abbrev pub TellsWithdrawal : ℕ → Listed CauseOfProgram → List QueuedUpdate → Entry → Type 0
 TellsWithdrawal k causes rs e =
     (ms : List Rule) (B : ℕ) → entry_of e ≡ WasWithdrawn (record { update = suc k; causes = map cause_of causes.items; committed = committed (caused_chase ms B) (updates_of ms B rs) })

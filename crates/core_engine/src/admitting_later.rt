@@ -24,7 +24,7 @@ impl<'s> Core<'s> {
     }
 
     /// Admits one more update, after the others and with no recorded answers, and returns its number. On an error the update is
-    /// handed back, and the core is unchanged. The caller must test with `admits` whether the update may be admitted.
+    /// handed back, and the core is unchanged. The caller tests with `admits` whether the update may be admitted.
     pub fn admit(&mut self, alloc: Global, update: Update) -> Result<u32, (AdmitRefusal, Update)>
         ensures made { OnOk result (HasAdmitted self.old (operation_of update.operation) self.new) }
         ensures kept { OnErr result (self.new ≡ self.old) }
@@ -40,7 +40,7 @@ impl<'s> Core<'s> {
         }
     }
 
-    // Admits one more update; there is room for it in the numbers. On an error the update is handed back.
+    // Admits one more update; there are fewer than the most that there may be. On an error the update is handed back.
     fn make_admission(&mut self, alloc: Global, update: Update) -> Result<u32, Update>
         requires few { length (updates_at self.old) < 1000 }
         ensures made { OnOk result (HasAdmitted self.old (operation_of update.operation) self.new) }

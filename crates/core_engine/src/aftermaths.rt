@@ -18,8 +18,8 @@ pub(crate) struct Aftermath {
     pub(crate) causes: CauseList,
 }
 
-/// Restarts the updates above that have a cause: makes their next attempts, and takes their trails out of the versions. `found`
-/// has the causes of the first of them. On an error some of the trails may be gone.
+/// Prepares the restart of the updates above that have a cause: makes their next attempts, and takes their trails out of the
+/// versions. `found` has the causes, which were looked for among the first of them. On an error some of the trails may be gone.
 pub(crate) fn settled(
     alloc: Global,
     versions: &mut Versions,
@@ -89,7 +89,7 @@ fn in_order(alloc: Global, found: Vec<Option<Cause>>) -> Result<CauseList, Memor
     Ok(conflicts)
 }
 
-// Puts the cause, if there is one, after those of its kind.
+// Puts the cause, if there is one, after the others of its kind.
 fn put(
     conflicts: &mut CauseList,
     dependences: &mut CauseList,

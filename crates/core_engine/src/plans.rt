@@ -131,9 +131,9 @@ impl<'s> Snapshot<'s> {
     }
 }
 
-/// The plan of the next step of the update at the place, which is ready. `known` may have marks of the update; they are kept up
-/// to date. The step is planned on a branch of the attempt, which gets what the attempt holds to make more writes. On an error
-/// the marks are of no update, or unchanged. The updates stay as they are.
+/// The plan of the next step of the update at the place, which is ready. Marks of the update in `known` are used, and its new
+/// marks are kept there. The step is planned on a branch of the attempt, which gets what the attempt holds to make more writes.
+/// On an error the marks are of no update, or unchanged. The updates stay as they are.
 pub(crate) fn plan_at(
     alloc: Global,
     mappings: &TouchedMappings<'_>,
@@ -160,8 +160,8 @@ pub(crate) fn plan_at(
     plan_of(alloc, mappings, budget, versions, item, branch, known)
 }
 
-// The plan of the next step of the queued update, which is ready, made on a branch of its attempt with what is known of it. Its
-// marks are kept up to date.
+// The plan of the next step of the queued update, which is ready, on a branch of its attempt. Marks of the update in `known` are
+// used, and its new marks are kept there.
 fn plan_of(
     alloc: Global,
     mappings: &TouchedMappings<'_>,

@@ -19,8 +19,8 @@ use core_queue::{QueuedUpdate, Settings, committed_from};
 use set_versions::Versions;
 use std::alloc::Global;
 
-/// Makes the step of the plan, which is the next one of the update at the place. Returns a number of updates that are committed
-/// at least afterwards. On an error the queue and the history keep their meaning.
+/// Makes the step of the plan, which is the next one of the update at the place. Returns a lower bound for the number of updates
+/// that are committed afterwards. On an error the queue and the history keep their meaning.
 pub(crate) fn step_at(
     alloc: Global,
     scene: &Scene<'_>,

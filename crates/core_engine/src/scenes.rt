@@ -3,8 +3,8 @@
 use base_limits::Mappings;
 use core_queue::{QueuedUpdate, Settings};
 
-/// What an event finds: the mappings, the settings, a number of updates that are committed at least, and a number of the first
-/// updates after which none has read anything.
+/// What an event finds: the mappings, the settings, a lower bound for the number of committed updates (`least`), and a number of
+/// first updates after which none has read anything (`most`).
 #[derive(Drop)]
 pub(crate) struct Scene<'a> {
     pub(crate) mappings: &'a Mappings<'a>,

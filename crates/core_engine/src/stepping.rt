@@ -98,7 +98,7 @@ fn found<'a>(
     walk.causes_of_writes(alloc, written, spot.upper, spot.readers)
 }
 
-// The writes that come by the step, or those that go if the attempt ends by it spent or refused.
+// The writes that come by the step, or the writes that go if the attempt ends by it spent or refused.
 fn turned<'a>(item: &'a QueuedUpdate, plan: &'a Plan) -> (Sense, &'a [Write])
     requires between { IsBetween item.now.program }
     requires after { IsBetween plan.now.program }
@@ -110,7 +110,7 @@ fn turned<'a>(item: &'a QueuedUpdate, plan: &'a Plan) -> (Sense, &'a [Write])
     (Sense::Came, item.written(plan))
 }
 
-// The versions with the writes that the step shows, or without those of the update if it ends by the step spent or refused.
+// The versions with the writes that the step shows, or without the update's writes if it ends by the step spent or refused.
 fn versions_after(
     alloc: Global,
     versions: &Versions,

@@ -1,6 +1,7 @@
 //! What an update may do next.
 
-/// The standing of an update. If several of these hold, it is the last of them.
+/// The standing of an update. If several of these hold, it is `Withdrawn`, else how the attempt ended, else `Held`, else what is
+/// lacking at its question.
 #[derive(Clone, Copy, Debug)]
 pub enum Standing {
     /// It may make a step.

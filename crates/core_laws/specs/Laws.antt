@@ -18,7 +18,7 @@ use Rattle.lang_session.specs.Base.{base_violation}
 use Rattle.lang_session.specs.Meanings.{requests_in}
 use Rattle.core_laws.specs.Turns.{turned, after_turns, work_after, is_quiet_after}
 
--- Its events are only admissions, steps and deliveries.
+-- The history's events are only admissions, steps and deliveries.
 abbrev pub AreRecorded : Ground → List PlainEntry → Type 0
 AreRecorded g H = list_all is_recorded (map event_of (entries_over g H)) ≡ true
 
@@ -28,16 +28,16 @@ pub record Keeps (g : Ground) (H H' : List PlainEntry) : Type 0 where
   pub recorded : AreRecorded g H → AreRecorded g H'
   pub count : length (updates_after g H') ≡ length (updates_after g H)
 
--- A turn keeps this, and leaves less work.
+-- A turn keeps what `Keeps` says, and leaves less work.
 pub record IsTurn (g : Ground) (H H' : List PlainEntry) : Type 0 where
   pub keeps : Keeps g H H'
   pub less : suc (work_after g H') ≤ work_after g H
 
--- Each turn after a legal history is such a turn.
+-- Each turn after a legal history keeps what `Keeps` says, and leaves less work.
 abbrev pub TurnLaw : Type 0
 TurnLaw = (g : Ground) (H H' : List PlainEntry) → 1 ≤ g.budget → IsRepository g.base → IsLegalOver g H → turned g H ≡ Some H' → IsTurn g H H'
 
--- Any number of turns keeps this.
+-- Any number of turns keeps what `Keeps` says.
 abbrev pub TurnsLaw : Type 0
 TurnsLaw = (g : Ground) (n : ℕ) (H H' : List PlainEntry) → 1 ≤ g.budget → IsRepository g.base → IsLegalOver g H → after_turns g n H ≡ Some H' → Keeps g H H'
 

@@ -1,5 +1,5 @@
-//! Drains of kept histories. While an update is ready or an answer can be delivered, a turn is a step of the lowest ready
-//! update, else a delivery to the lowest update that can have one.
+//! Drains of kept histories. While an update is ready or an answer can be delivered, turns are made. A turn is a step of the
+//! lowest ready update, else a delivery to the lowest update that can have one.
 //!
 //! The definitions stand in `specs/`. Each function is a law, whose contract is the statement and whose body is empty.
 #![tactic(auto)]

@@ -24,7 +24,7 @@ AllHaveOneMore (r ∷ rs) = HasOneMore r × AllHaveOneMore rs
 abbrev pub IsFresh : QueuedUpdate → State → Type 0
 IsFresh r s = s ≡ between (begun r.program.attempt.number (suc r.program.attempt.attempt) r.program.attempt.operation)
 
--- It is the next attempt, if there is one.
+-- The attempt is the update's next one, if there is one.
 abbrev pub IsFreshIf : QueuedUpdate → Option State → Type 0
 IsFreshIf r None = Unit {0}
 IsFreshIf r (Some s) = IsFresh r s

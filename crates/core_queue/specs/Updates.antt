@@ -16,15 +16,15 @@ use Rattle.def_steps.specs.Chase.{caused_chase}
 use Rattle.core_queue.specs.Queues.{update_of}
 use Rattle.core_queue.specs.declared.updates.QueuedUpdate.{QueuedUpdate}
 
--- These are the writes that others see of it.
+-- These are the writes that others see of the update.
 abbrev pub HasTrail : QueuedUpdate → List Write → Type 0
 HasTrail r ws = (ms : List Rule) (B : ℕ) → map change_of ws ≡ trail (caused_chase ms B) (update_of ms B r)
 
--- Whether it was withdrawn or its attempt has ended.
+-- Whether the update was withdrawn or its attempt has ended.
 abbrev pub IsOver : QueuedUpdate → Bool → Type 0
 IsOver r b = (ms : List Rule) (B : ℕ) → b ≡ is_over (caused_chase ms B) (update_of ms B r)
 
--- Whether it is neither withdrawn nor committed.
+-- Whether the update is neither withdrawn nor committed.
 abbrev pub IsLive : ℕ → ℕ → QueuedUpdate → Bool → Type 0
 IsLive c n r b = (ms : List Rule) (B : ℕ) → b ≡ is_live (caused_chase ms B) c n (update_of ms B r)
 
@@ -32,7 +32,7 @@ IsLive c n r b = (ms : List Rule) (B : ℕ) → b ≡ is_live (caused_chase ms B
 abbrev pub HasStanding : Settings → ℕ → ℕ → QueuedUpdate → Standing → Type 0
 HasStanding s c n r st = (ms : List Rule) (B : ℕ) → standing_of st ≡ standing (caused_chase ms B) s c n (update_of ms B r)
 
--- Whether it may make a step.
+-- Whether the update may make a step.
 abbrev pub IsReady : Settings → ℕ → ℕ → QueuedUpdate → Bool → Type 0
 IsReady s c n r b = (ms : List Rule) (B : ℕ) → b ≡ is_ready (standing (caused_chase ms B) s c n (update_of ms B r))
 
@@ -40,7 +40,7 @@ IsReady s c n r b = (ms : List Rule) (B : ℕ) → b ≡ is_ready (standing (cau
 abbrev pub CannotStep : (M : Machine) → Update M → Type 0
 CannotStep M u = (s : Settings) (c n : ℕ) → is_ready (standing M s c n u) ≡ false
 
--- It is unready.
+-- The update is unready.
 abbrev pub IsUnready : QueuedUpdate → Type 0
 IsUnready r = (ms : List Rule) (B : ℕ) → CannotStep (caused_chase ms B) (update_of ms B r)
 

@@ -22,7 +22,7 @@ unless_fits i (Some c) = if fits_inquiry i c then None else Some Misfit
 abbrev pub HasLack : QueuedUpdate → Option Lack → Type 0
 HasLack r l = (ms : List Rule) (B : ℕ) → l ≡ lack (caused_chase ms B) (map choice_of r.answers.items) r.program.attempt
 
--- Whether it was restarted too often to go on beside lower updates.
+-- Whether the update was restarted too often to go on beside lower updates.
 abbrev pub IsHeld : Settings → ℕ → ℕ → QueuedUpdate → Bool → Type 0
 IsHeld s c n r b = (ms : List Rule) (B : ℕ) → b ≡ is_held (caused_chase ms B) s c n (update_of ms B r)
 

@@ -218,7 +218,7 @@ fn is_among(numbers: &[u32], number: u32) -> bool
     numbers.contains(&number)
 }
 
-// Whether there is no such update.
+// Whether there is no number.
 fn is_none(number: Option<u32>) -> bool
     ensures none { result ≡ is_none_def number }
 {

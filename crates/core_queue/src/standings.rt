@@ -102,7 +102,7 @@ impl QueuedUpdate {
         }
     }
 
-    // Whether it was restarted too often to go on beside lower updates.
+    // Whether the update was restarted too often to go on beside lower updates.
     fn is_held(&self, settings: Settings, committed: u32, number: u32) -> bool
         ensures held { IsHeld (settings_of settings) committed number self.now result }
         ensures room { result ≡ true → committed + 1 < number }

@@ -62,11 +62,11 @@ IsStopAt n P l s = option_map stop_of s ≡ option_map stop_in (option_map outer
 abbrev pub IsStop : List QueuedUpdate → Option StopOfProgram → Type 0
 IsStop rs s = (ms : List Rule) (B : ℕ) → option_map stop_of s ≡ stop_told ms B (first_stop (caused_chase ms B) 1 (updates_of ms B rs))
 
--- These are the tuples in outer form, without those that say which mappings are in force.
+-- These are the tuples in outer form, without the tuples that say which mappings are in force.
 abbrev pub AreAnswered : List Fact → Listed Tuple → Type 0
 AreAnswered D ts = facts_of ts ≡ map outer (answered D)
 
--- The versions are those of the queued updates over D.
+-- The versions are of the queued updates over D.
 pub record AreVersionsOf (ms : List Rule) (B : ℕ) (D : List Fact) (rs : List QueuedUpdate) (v : Kept) : Type 0 where
   pub sorted : IsRepository D
   pub stand : StandFor v D (numbered (trail (caused_chase ms B)) (updates_of ms B rs))

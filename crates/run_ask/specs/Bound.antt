@@ -23,18 +23,19 @@ names_of names = map (λ n. n.items) names
 abbrev pub written_of : RawAsk → WrittenAsk
 written_of raw = record { head = names_of raw.head.items; body = map atom_of raw.body.items }
 
--- The query over the relations: numbers in place of names, the variables by first occurrence in the body. The first atom from the left is at fault whose relation is unknown or has another number of columns.
+-- The query over the relations: numbers in place of names, the variables by first occurrence in the body. The first atom from
+-- the left whose relation is unknown or has another number of columns is at fault.
 unfoldable pub bound_ask : List RelationSchema → WrittenAsk → Result ConjunctiveQuery Kind
 bound_ask relations q = numbered_atoms relations q.body >>= (λ x. Ok (record { head = map (place_of x.1) q.head; body = x.0 }))
 
--- a refusal of atoms by themselves: a relation that is unknown, or that has another number of columns
+-- a refusal of atoms: a relation that is unknown, or that has another number of columns
 abbrev pub IsOfAtoms : SchemaRefusal → Type 0
 IsOfAtoms (schema.UnknownRelation n) = Unit {0}
 IsOfAtoms (schema.Arity n columns found) = Unit {0}
 IsOfAtoms schema.Memory = Unit {0}
 IsOfAtoms _ = ⊥
 
--- that refusal as one of the query
+-- a refusal of atoms as one of the query
 abbrev pub of_query : SchemaRefusal → AskRefusal
 of_query (schema.UnknownRelation n) = refusal.UnknownRelation n
 of_query (schema.Arity n columns found) = refusal.Arity n columns found

@@ -1,4 +1,4 @@
--- Answers to queries as users are told them.
+-- Answers to queries as users see them.
 use Rattle.std.specs.Prelude.{ℕ, false, List, [], ◌∷◌, ◌++◌, codes}
 use Rattle.std.specs.List.{flat_map}
 use Rattle.def_language.specs.Printing.{joined_text, value_text}

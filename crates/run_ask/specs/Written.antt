@@ -10,18 +10,18 @@ use Rattle.def_language.specs.Names.{Name, same_name}
 use Rattle.def_language.specs.Statements.{WrittenTerm, Variable, Constant, WrittenAtom}
 use Rattle.def_language.specs.Parts.{name_at, open_at, colon_at, right_at}
 
--- A query as it is written: the names of its head's variables, and the atoms of its body. The name before them says nothing.
+-- A query as it is written: the names of its head's variables, and the atoms of its body. The name before them means nothing.
 pub record WrittenAsk : Type 0 where
   pub head : List Name
   pub body : List WrittenAtom
 
--- what stands behind a name of the head
+-- what follows a name of the head
 abbrev pub head_sign : Name → List Word → Result (Name × Bool × List Word) Kind
 head_sign n (comma ∷ rest) = Ok (n, true, rest)
 head_sign n (closes ∷ rest) = Ok (n, false, rest)
 head_sign n _ = wants missing.CommaOrClose
 
--- a name of the head, whether a comma stands behind it, and what stands behind that or behind the parenthesis
+-- a name of the head, whether a comma follows it, and the words after that comma or after the parenthesis
 unfoldable pub head_name : List Word → Result (Name × Bool × List Word) Kind
 head_name words = name_at words >>= (λ x. head_sign x.0 x.1)
 
@@ -59,7 +59,8 @@ stands_in atoms n = list_any (stands_in_atom n) atoms
 abbrev pub is_ask : WrittenAsk → Bool
 is_ask q = is_few (length q.head) && (is_few (length q.body) && list_all (stands_in q.body) q.head)
 
--- A text spells a query: it is UTF-8 without a line feed, its words are read as that, and that is a query. Blanks and a comment may stand around.
+-- A text spells a query: it is UTF-8 without a line feed, and its words are read as that query, which keeps the limits of one.
+-- Blanks and a comment may stand around it.
 pub record SpellsAsk (text : List ℕ) (q : WrittenAsk) : Type 0 where
   pub utf8 : IsUtf8 text
   pub one_line : All (λ b. is_line_feed b ≡ false) text

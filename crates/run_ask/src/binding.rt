@@ -13,7 +13,7 @@ use base_types::{List, Memory, Name};
 use lang_schema::{Names, Schema, SchemaRefusal, numbered_atoms};
 use std::alloc::Global;
 
-// The place of a name among the variables, or how many there are where it is none of them.
+// The place of a name among the variables, or the number of variables if it is none of them.
 fn place_of(variables: &Names, name: &Name) -> usize
     ensures { result ≡ place_of variables.now.items name.now.items }
 {
@@ -23,7 +23,7 @@ fn place_of(variables: &Names, name: &Name) -> usize
     }
 }
 
-// That place as the number of a variable. Numbers fit, since at most 8 atoms have at most 64 terms.
+// The place of a name as the number of a variable. Numbers fit, since at most 8 atoms have at most 64 terms.
 fn number_of(variables: &Names, name: &Name) -> Result<u16, Memory>
     ensures { IfOk result (λ number. number ≡ place_of variables.now.items name.now.items) }
 {
@@ -45,7 +45,7 @@ fn places_of(alloc: Global, variables: &Names, names: &[Name]) -> Result<VarList
     Ok(places)
 }
 
-// A refusal of atoms by themselves, as one of the query.
+// A refusal of atoms as one of the query.
 fn of_query(refusal: SchemaRefusal) -> AskRefusal
     requires { IsOfAtoms refusal }
     ensures { result ≡ of_query refusal }
@@ -66,9 +66,8 @@ fn of_query(refusal: SchemaRefusal) -> AskRefusal
     }
 }
 
-/// The query over the relations of a schema, for a query that some text spells. Its variables are numbered by first
-/// occurrence in the body. It is refused at the first atom from the left whose relation is not known or has another
-/// number of columns.
+/// The query over the relations of a schema, for a query that some text spells. Its variables are numbered by first occurrence
+/// in the body. It is refused at the first atom from the left whose relation is unknown or has another number of columns.
 pub fn bind_ask(alloc: Global, schema: &Schema, raw: &RawAsk) -> Result<Ask, AskRefusal>
     requires spelled { is_ask (written_of raw.now) ≡ true }
     ensures bound { Gives query_of result (bound_ask schema.now (written_of raw.now)) }

@@ -1,13 +1,12 @@
 //! Certain answers to conjunctive queries: the definition, naive evaluation, and the theorem that the two agree.
 ghost use Rattle.run_ask.specs.Laws.{CertainIsComputed, MembersDecide, NaiveIsCertain};
 
-/// The rows without nulls that naive evaluation gives are exactly the certain answers, where no constant of the query
-/// is a null.
+/// The rows without nulls that naive evaluation gives are exactly the certain answers, if no constant of the query is a null.
 pub fn naive_is_certain()
     ensures { NaiveIsCertain }
 {}
 
-/// What `certain_answers` computes for a safe query are its certain answers: in order, each once, and no others.
+/// `certain_answers` computes the certain answers of a safe query: in order, each once, and no others.
 pub fn certain_is_computed()
     ensures { CertainIsComputed }
 {}

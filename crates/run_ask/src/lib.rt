@@ -1,8 +1,8 @@
-//! Certain answers: conjunctive queries as they are written and over a schema, and the rows that come whatever the
-//! nulls of a repository stand for.
+//! Certain answers: conjunctive queries as they are written and over a schema, and the rows that come whatever the nulls of a
+//! repository stand for.
 //!
 //! `parse_ask` reads a query, `bind_ask` puts numbers in place of its names, `certain` answers it over a set of tuples.
-//! What a certain answer is, and that naive evaluation computes just these, stands in `run_ask`.
+//! `specs/Certain.antt` says what a certain answer is, and `naive_is_certain` that naive evaluation gives exactly these.
 #![tactic(auto)]
 
 mod answers;

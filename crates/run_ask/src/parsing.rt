@@ -16,7 +16,7 @@ use lang_schema::{RawAtom, RawTerm};
 use memchr::memchr;
 use std::alloc::Global;
 
-// A name of the head, whether a comma stands behind it, and what stands behind that or behind the parenthesis.
+// A name of the head, whether a comma follows it, and the words after that comma or after the parenthesis.
 #[tactic(auto, unfolding(crate::specs::Written::head_name))]
 fn head_name(alloc: Global, words: Words<'_>) -> Result<(Name, bool, Words<'_>), FormRefusal>
     ensures gives { Gives (λ x. (x.0.items, x.1, words_of x.2)) result
@@ -48,7 +48,7 @@ fn head_at(alloc: Global, words: Words<'_>) -> Result<(NameList, Words<'_>), For
     }
 }
 
-// The query that the words of a line are.
+// The query that the words of a line spell.
 #[tactic(auto, unfolding(crate::specs::Written::ask_at))]
 fn ask_at(alloc: Global, words: Words<'_>) -> Result<RawAsk, FormRefusal>
     ensures { Gives written_of result (ask_at (words_of words.entry)) }
@@ -61,7 +61,7 @@ fn ask_at(alloc: Global, words: Words<'_>) -> Result<RawAsk, FormRefusal>
     Ok(RawAsk { head, body })
 }
 
-// From 1 to 8.
+// Whether the number is from 1 to 8.
 fn is_few(count: usize) -> bool
     ensures { result ≡ is_few count }
 {
@@ -134,7 +134,7 @@ fn is_one_line(text: &[u8]) -> bool
     memchr(b'\n', text).is_none()
 }
 
-// The words of a line as a query, whether or not it is fit to be one.
+// The words of a line as a query, whether or not it keeps the limits of one.
 fn read_ask(alloc: Global, words: Words<'_>) -> Result<Option<RawAsk>, Memory>
     ensures some { IfOk result
         (λ found. IfSome found (λ raw. ask_at (words_of words.entry) ≡ Ok (written_of raw))) }
@@ -148,9 +148,9 @@ fn read_ask(alloc: Global, words: Words<'_>) -> Result<Option<RawAsk>, Memory>
     }
 }
 
-/// The query that a text spells: the names of its head, and the atoms of its body; None exactly where the text spells none.
-/// Blanks and a comment may stand around the query, and no line feed anywhere. A query has 1 to 8 atoms, and 1 to 8 names in its
-/// head, each of them a variable of the body.
+/// The query that a text spells: the names of its head, and the atoms of its body; None exactly if the text spells none. Blanks
+/// and a comment may stand around the query, and no line feed anywhere. A query has 1 to 8 atoms, and 1 to 8 names in its head,
+/// each of them a variable of the body.
 pub fn parse_ask(alloc: Global, text: &[u8]) -> Result<Option<RawAsk>, Memory>
     ensures some { IfOk result
         (λ found. IfSome found (λ raw. SpellsAsk text.now (written_of raw))) }

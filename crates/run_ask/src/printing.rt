@@ -1,4 +1,4 @@
-//! Answers and refusals of queries as users are told them.
+//! Answers to queries as users see them.
 
 ghost use Rattle.std.specs.Prelude.{◌≡◌, ◌++◌, IfOk, OnOk, flat_map, map};
 ghost use Rattle.run_ask.specs.Asks.{row_of, rows_of};
@@ -29,7 +29,7 @@ fn push_rows(out: &mut Vec<u8>, rows: &[Row]) -> Result<(), AllocError>
     Ok(())
 }
 
-/// The text that tells answers: a line that says that they follow, and then each row on a line of its own.
+/// The text of answers: a line that says that they follow, and then each row on a line of its own.
 pub fn answers_text(alloc: Global, rows: &RowList) -> Result<Vec<u8>, Memory>
     ensures text { IfOk result (λ text. text.items ≡ answers_text (rows_of rows.now)) }
 {

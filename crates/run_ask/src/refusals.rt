@@ -1,11 +1,11 @@
-//! Why a query does not go with the relations.
+//! Why a query does not fit the relations.
 
 ghost use Rattle.std.specs.Prelude.{◌≡◌};
 ghost use Rattle.run_ask.specs.declared.refusals.AskRefusal.TheVariants.{Memory as WantOfMemory};
 
 use base_types::{Memory, Name};
 
-/// Why a query does not go with the relations of a schema.
+/// Why a query does not fit the relations of a schema.
 #[derive(Debug, Drop)]
 pub enum AskRefusal {
     /// No relation has this name.
@@ -28,7 +28,7 @@ impl From<Memory> for AskRefusal {
     }
 }
 
-/// A call that hands its argument back beside `Memory`, where the caller has no more use for it.
+/// For a call that hands its argument back beside `Memory`, if the caller has no use for it any more.
 impl<T: Drop> From<(T, Memory)> for AskRefusal {
     ghost from_gives = { λ _ refusal. refusal ≡ WantOfMemory };
 

@@ -1,4 +1,4 @@
--- The draws of a seed: a number of 64 bits that is moved on by a fixed multiplication and addition, of which the upper part counts.
+-- The draws of a seed: a number of 64 bits is moved on by a fixed multiplication and addition, and its upper part counts.
 use Rattle.std.specs.Prelude.{ℕ, ◌+◌, ◌*◌, ◌/◌, ◌%◌, ◌^◌}
 
 -- The state after one draw.

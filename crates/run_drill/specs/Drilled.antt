@@ -9,12 +9,12 @@ use Rattle.def_language.specs.Sessions.{RelationSchema, SessionMapping, SessionU
 use Rattle.run_drill.specs.Draws.{next, drawn}
 use Rattle.run_drill.specs.Columns.{columns, after}
 
--- What an update does: inserts or deletes a tuple of this relation, with numbers below these.
+-- What an update does: it inserts or deletes a tuple of this relation, with numbers below these limits.
 pub data Kind : Type 0 where
   Inserts : ℕ → List ℕ → Kind
   Deletes : ℕ → List ℕ → Kind
 
--- By a number below 10. The relations are City 0, Country 1, Airport 2 and Tour 3.
+-- The kind of an update by a number below 10. The relations are City 0, Country 1, Airport 2 and Tour 3.
 abbrev pub kind_of : ℕ → Kind
 kind_of k =
     if nat_lt k 4 then Inserts 0 (50 ∷ 20 ∷ [])
@@ -56,7 +56,7 @@ update_at n x = record { label = label n; curator = curator n; operation = opera
 abbrev pub after_update : ℕ → ℕ
 after_update x = after (below_in (kind_at x)) (next x)
 
--- So many updates, the first of number n.
+-- The updates of this count, the first of number n.
 abbrev pub updates_from : ℕ → ℕ → ℕ → List SessionUpdate
 updates_from n zero x = []
 updates_from n (suc k) x = update_at n x ∷ updates_from (n + 1) k (after_update x)
@@ -105,7 +105,7 @@ m3 =
 abbrev pub with_updates : List SessionUpdate → SessionData
 with_updates us = record { format = 1; relations = relations; mappings = m1 ∷ m2 ∷ m3 ∷ []; base = []; updates = us }
 
--- The session of so many updates, with the draws of this seed.
+-- The session of `count` updates, with the draws of this seed.
 abbrev pub drilled : ℕ → ℕ → SessionData
 drilled count seed = with_updates (updates_from 1 count seed)
 

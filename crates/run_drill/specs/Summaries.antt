@@ -25,7 +25,7 @@ sums_line t = codes "steps " ++ (decimal t.steps ++ (codes " nulls " ++ (decimal
 abbrev pub repository_line : ℕ → List ℕ
 repository_line tuples = codes "repository " ++ (decimal tuples ++ codes "\n")
 
--- The summary of a drill of so many updates by this seed, whose run told this.
+-- The summary of a drill of `count` updates by this seed, whose run had this result.
 abbrev pub summary_text : ℕ → ℕ → ResultTold → List ℕ
 summary_text count seed told =
     drill_line count seed

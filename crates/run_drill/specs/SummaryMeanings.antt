@@ -6,7 +6,7 @@ use Rattle.run_drill.specs.declared.totals.Totals.{Totals}
 abbrev pub totals_of : Totals → meant.Totals
 totals_of t = record { done = t.done; spent = t.spent; refused = t.refused; steps = t.steps; nulls = t.nulls }
 
--- These are totals of at most so many updates.
+-- These are totals of at most `most` updates.
 pub record IsWithin (most : ℕ) (t : Totals) : Type 0 where
   pub done : t.done ≤ most
   pub spent : t.spent ≤ most

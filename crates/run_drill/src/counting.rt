@@ -22,7 +22,7 @@ impl Model for Count {
 }
 
 impl Count {
-    /// So many updates.
+    /// The count of `number` updates.
     pub fn new(number: u32) -> Count
         requires some { 1 ≤ number }
         requires most { number ≤ 1000 }
@@ -31,7 +31,7 @@ impl Count {
         Count { number }
     }
 
-    /// How many there are.
+    /// The number of updates.
     pub fn number(self) -> u32
         ensures same { result ≡ self }
         ensures some { 1 ≤ result }

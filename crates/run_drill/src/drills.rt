@@ -13,11 +13,11 @@ use lang_reader::{ReadFailure, read_session};
 use lang_session::Session;
 use std::alloc::Global;
 
-// The relations and the mappings of each.
+// The relations and the mappings of every drilled session.
 const BLANK: &[u8] =
     b"youtopia 1\nrelation City 2\nrelation Country 2\nrelation Airport 2\nrelation Tour 3\nmapping m1: City(x, c) -> Country(c, z)\nmapping m2: Airport(a, x) -> City(x, c)\nmapping m3: Tour(t, x, y) -> City(x, c), City(y, d)\nend\n";
 
-/// The session of so many updates with the draws of this seed: a valid one, whose base is empty and violates no mapping.
+/// The session of `count` updates with the draws of this seed: a valid one, whose base is empty and violates no mapping.
 pub fn drill(alloc: Global, count: Count, seed: u64) -> Result<Session, Memory>
     ensures drilled { IfOk result (λ session. session_of session ≡ drilled count seed) }
     ensures valid { IfOk result (λ session. IsSession (session_of session)) }

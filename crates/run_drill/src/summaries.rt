@@ -51,8 +51,8 @@ fn repository_line(alloc: Global, tuples: usize) -> Result<Vec<u8>, Memory>
     Ok(line.into_bytes())
 }
 
-/// The summary of a drill of so many updates by this seed, whose run told this: how many updates came to their ends, and how; the
-/// steps that they made, the nulls that they drew, and the tuples that they left.
+/// The summary of a drill of `count` updates by this seed, whose run had this result: how many updates came to their ends, and
+/// how; the steps that they made, the nulls that they drew, and the tuples that they left.
 pub fn summary_text(
     alloc: Global,
     count: u32,

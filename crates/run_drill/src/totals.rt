@@ -1,4 +1,4 @@
-//! What the ends of a run's updates come to.
+//! The totals of the ends of a run's updates.
 ghost use Rattle.std.specs.Prelude.{◌≡◌, ◌+◌, ◌*◌, ◌<◌, ◌≤◌, ◌^◌, length, map};
 ghost use Rattle.chase_update.specs.Results.{finish_of};
 ghost use Rattle.run_drill.specs.SummaryMeanings.{IsWithin, totals_of};
@@ -16,7 +16,7 @@ pub(crate) struct Totals {
     pub nulls: u128,
 }
 
-// Those of no updates.
+// The totals of no updates.
 fn nothing() -> Totals
     ensures { totals_of result ≡ nothing }
 {
@@ -29,7 +29,7 @@ fn nothing() -> Totals
     }
 }
 
-// One more ended so. Of the updates there are so many.
+// The totals with one more update that ended so, after `before` others.
 fn with_finish(totals: Totals, finish: Finish, before: u64) -> Totals
     requires within { IsWithin before totals }
     requires few { before < 2 ^ 63 }
@@ -69,7 +69,7 @@ fn with_finish(totals: Totals, finish: Finish, before: u64) -> Totals
     }
 }
 
-/// Those of updates that ended so.
+/// The totals of updates that ended so.
 pub(crate) fn totals_by(finishes: &[Finish]) -> Totals
     ensures { totals_of result ≡ totals (map finish_of finishes.now) }
 {

@@ -21,7 +21,7 @@ fn push(state: &mut u64, values: &mut ValueList, most: u32) -> Result<(), Memory
     Ok(())
 }
 
-/// A tuple of two numbers below these, drawn from the left.
+/// A tuple of two numbers below these limits, drawn from the left.
 pub(crate) fn pair(
     alloc: Global,
     state: &mut u64,
@@ -41,7 +41,7 @@ pub(crate) fn pair(
     Tuple::new(alloc, relation, values)
 }
 
-/// A tuple of three such numbers.
+/// A tuple of three numbers below these limits, drawn from the left.
 pub(crate) fn triple(
     alloc: Global,
     state: &mut u64,

@@ -20,7 +20,7 @@ const AIRPORT: u16 = 2;
 
 const TOUR: u16 = 3;
 
-/// So many updates, numbered from 1, drawn from this seed.
+/// The updates of a drill, `count` of them, numbered from 1 and drawn from this seed.
 pub(crate) fn updates(alloc: Global, count: u32, seed: u64) -> Result<SessionUpdates, Memory>
     requires most { count ≤ 1000 }
     ensures updates { IfOk result (λ updates.

@@ -10,14 +10,15 @@ use Rattle.def_provenance.specs.Reasons.{explanation, IsExplanation}
 use Rattle.run_explain.specs.ReasonMeanings.{reasons_in}
 use Rattle.run_explain.specs.declared.reasons.Reason.{Reason}
 
--- This is the explanation of the tuple in what the serial machine leaves of the session, with so many steps for each update; none where it is not there.
+-- This is the explanation of the tuple in what the serial machine leaves of the session, with a budget of B steps for each
+-- update; none if the tuple is not there.
 abbrev pub Explains : ℕ → SessionData → Fact → Option (Listed Reason) → Type 0
 Explains B s t e = option_map reasons_in e ≡ explanation (rules_of s.mappings) B s.base (requests_in s) t
 
--- This is the explanation of its first tuple there.
+-- These reasons are the explanation of their first tuple in what the serial machine leaves.
 abbrev pub IsExplained : ℕ → SessionData → Listed Reason → Type 0
 IsExplained B s rs = IsExplanation (rules_of s.mappings) B s.base (requests_in s) (reasons_in rs)
 
--- This explains the tuple there.
+-- These reasons explain the tuple in what the serial machine leaves.
 abbrev pub IsTold : ℕ → SessionData → Fact → Listed Reason → Type 0
 IsTold B s t rs = explanation (rules_of s.mappings) B s.base (requests_in s) t ≡ Some (reasons_in rs)

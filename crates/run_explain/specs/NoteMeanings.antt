@@ -14,6 +14,6 @@ use Rattle.run_note.specs.declared.notes.Note.{Note}
 abbrev pub notes_in : Listed Note → List Noted
 notes_in ns = map note_of ns.items
 
--- What that step puts has been noted.
+-- What the step of P over D with this answer puts has been noted.
 abbrev pub HasNoted : List Rule → List Fact → Option Choice → Attempt → Listed Note → Listed Note → Type 0
 HasNoted ms D c P ns ns' = notes_in ns' ≡ notes_in ns ++ noted (step_of ms D P c)

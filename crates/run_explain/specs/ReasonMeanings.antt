@@ -1,4 +1,4 @@
--- What reasons mean, and what is told by a note.
+-- What reasons mean, and which reasons a note gives.
 use Rattle.std.specs.Prelude.{◌≡◌, List, ◌++◌, map, filter}
 use Rattle.def_chase.specs.Values.{Fact}
 use Rattle.def_chase.specs.Repository.{has}
@@ -12,7 +12,7 @@ use Rattle.run_explain.specs.declared.reasons.How.{How}
 use Rattle.run_explain.specs.declared.reasons.How.TheVariants.{Base, Inserted, Generated, Rewritten}
 use Rattle.run_explain.specs.declared.reasons.Reason.{Reason}
 
--- How a tuple came to be there, by a `How`.
+-- How a tuple came to be there, as a `How` says.
 abbrev pub how_of : How → meant.How
 how_of Base = meant.FromBase
 how_of (Inserted u s) = meant.Inserted u s
@@ -27,7 +27,7 @@ reason_of r = record { tuple = fact_of r.tuple; how = how_of r.how }
 abbrev pub reasons_in : Listed Reason → List meant.Reason
 reasons_in rs = map reason_of rs.items
 
--- The reasons for the tuples sought that this step put were told; what they rest on is sought in their place.
+-- The reasons for the tuples sought that this step put were added; what they rest on is sought in their place.
 abbrev pub HasTold : Noted → Listed Reason → List Fact → Listed Reason → List Fact → Type 0
 HasTold n rs sought rs' sought' =
     (reasons_in rs' ≡ reasons_in rs ++ map (reason_by n) (filter (has n.puts) sought))

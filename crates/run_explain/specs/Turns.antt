@@ -37,7 +37,7 @@ wants_none_done WishesStep = false
 abbrev pub left_from : List Rule → ℕ → List Fact → List Choice → ℕ → Attempt → List Noted
 left_from ms B D answers k P = notes_of (steps_from caused ms B P.operation D answers k P)
 
--- Behind the notes were added those of the steps from P on.
+-- The notes of the steps from P on were added after the notes.
 abbrev pub HasNotedFrom : List Rule → ℕ → List Fact → List Choice → Attempt → Listed Note → Listed Note → Type 0
 HasNotedFrom ms B D answers P ns ns' = notes_in ns' ≡ notes_in ns ++ left_from ms B D answers (B - P.steps) P
 
@@ -51,7 +51,7 @@ HasTaken ms B D n u t =
     (whole_rest ms B D (turn_of ms B n (request_of (update_of u))) ≡ (t.program.attempt, option_map lack_of t.lack))
     × (notes_in t.notes ≡ whole_notes ms B D n (request_of (update_of u)))
 
--- That holds of the mappings, the steps and the update n, wherever it was taken whole over D to this rest.
+-- The property holds of the mappings, the steps and the update n, whenever the update was taken whole over D to this rest.
 abbrev pub OnceTaken : List Fact → ℕ → Taken → (List Rule → ℕ → SessionUpdate → Type 0) → Type 0
 OnceTaken D n t p = (ms : List Rule) (B : ℕ) (u : SessionUpdate) → HasTaken ms B D n u t → p ms B u
 
@@ -59,12 +59,13 @@ OnceTaken D n t p = (ms : List Rule) (B : ℕ) (u : SessionUpdate) → HasTaken 
 unfoldable pub noted_from : List Rule → ℕ → List Fact → ℕ → List Request → List Noted
 noted_from ms B D n rs = notes_of (serial_steps caused ms B D (turns_in caused ms B n rs))
 
--- What is noted after a turn: nothing where the run stopped there.
+-- What is noted after a turn: nothing if the run stopped there.
 abbrev pub noted_after : List Rule → ℕ → List Fact → ℕ → List Request → Option StopTold → List Noted
 noted_after ms B D n rs None = noted_from ms B D n rs
 noted_after ms B D n rs (Some s) = []
 
--- The turn of update n is over: behind those notes was to be noted what is to be noted behind these, over D'.
+-- The turn of update n is over. The old notes, and then those of update n and the later ones over D, are the new notes, and then
+-- those of the later ones over D'.
 abbrev pub HasNotedTurn : List Rule → ℕ → ℕ → SessionUpdate → Listed Note → List Fact → Listed Note → List Fact → Option Stop → Type 0
 HasNotedTurn ms B n u ns D ns' D' stop =
     (rs : List Request) → notes_in ns ++ noted_from ms B D n (request_of (update_of u) ∷ rs)
@@ -74,6 +75,6 @@ HasNotedTurn ms B n u ns D ns' D' stop =
 abbrev pub HasNotedAll : List Rule → ℕ → List SessionUpdate → Listed Note → List Fact → Listed Note → Type 0
 HasNotedAll ms B us ns D ns' = notes_in ns ++ noted_from ms B D 1 (requests_of us) ≡ notes_in ns'
 
--- Of the serial machine's steps on the session, with so many for each update, that is noted which put a tuple.
+-- The notes are those of the serial machine's steps on the session, with a budget of B steps for each update, that put a tuple.
 abbrev pub IsNotedRun : ℕ → SessionData → NotedRun → Type 0
 IsNotedRun B s run = notes_in run.notes ≡ notes_of (serial_steps every (rules_of s.mappings) B s.base (turns_of (rules_of s.mappings) B (requests_in s)))

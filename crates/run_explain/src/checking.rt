@@ -14,7 +14,7 @@ use lang_session::Session;
 use std::alloc::Global;
 
 /// Whether the reasons are the explanation of the first of their tuples in the repository that the serial run of the session
-/// leaves: the same reasons in the same order. No reasons are none.
+/// leaves: the same reasons in the same order. An empty list is no explanation.
 pub fn check_explanation(
     alloc: Global,
     session: &Session,

@@ -23,15 +23,15 @@ use run_serial::base_of;
 use set_facts::IndexedFacts;
 use std::alloc::Global;
 
-/// What a run tells, and the explanation of a tuple; None exactly where it is not in the repository that the run leaves.
+/// The result of a run, and the explanation of a tuple; None exactly if the tuple is not in the repository that the run leaves.
 #[derive(Drop)]
 pub struct Explained {
     pub result: SessionResult,
     pub explanation: Option<Explanation>,
 }
 
-/// The explanation of a tuple in the repository that the serial run of the session leaves; None exactly where it is not there.
-/// Its nulls have attempt 0.
+/// The explanation of a tuple in the repository that the serial run of the session leaves; None exactly if it is not there. Its
+/// nulls have attempt 0.
 pub fn explain(
     alloc: Global,
     session: &Session,
@@ -77,7 +77,7 @@ pub fn explain_over(
     })
 }
 
-// The reasons for the tuple by the notes of a run, where it is in the repository that the run told.
+// The reasons for the tuple by the notes of a run, if it is in the repository of the run's result.
 fn told_if_left(
     alloc: Global,
     told: &SessionResult,
@@ -95,7 +95,7 @@ fn told_if_left(
     Ok(Some(explanation))
 }
 
-// Whether the tuple is in the repository that a run told.
+// Whether the tuple is in the repository of a run's result.
 fn is_left(told: &SessionResult, tuple: &Tuple) -> bool
     ensures there { result ≡ has (facts_of told.now.repository) (fact_of tuple.now) }
 {

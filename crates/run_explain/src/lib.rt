@@ -1,8 +1,7 @@
-//! Why a tuple is in what the serial run of a session leaves: the reasons for it, back to tuples of the base and to what
-//! curators inserted.
+//! Why a tuple is in what the serial run of a session leaves: the reasons for it, back to tuples of the base and to insertions
+//! of curators.
 //!
-//! `specs/Meanings.antt` says which reasons explain a tuple, `specs/Texts.antt` how one is written. `Err` is want of memory, of
-//! which no clause can say when it comes.
+//! `specs/Meanings.antt` says which reasons explain a tuple, `specs/Texts.antt` how an explanation is written.
 #![tactic(auto)]
 
 mod checking;

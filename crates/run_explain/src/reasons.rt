@@ -30,5 +30,5 @@ pub struct Reason {
     pub how: How,
 }
 
-/// Reasons: that of the tuple which is explained, and then those for what it rests on.
+/// The reason for the tuple that is explained, and then the reasons for what it rests on.
 pub type Explanation = List<Reason>;

@@ -11,7 +11,7 @@ use chase_unifier::apply;
 use run_note::Rewriting;
 use std::alloc::Global;
 
-/// The first of the tuples that the substitution takes to this one; this one itself where none does.
+/// The first of the tuples that the substitution takes to this one; this one itself if there is none.
 pub(crate) fn source(
     alloc: Global,
     rewriting: &Rewriting,

@@ -28,7 +28,7 @@ use run_serial::repositories::told;
 use set_facts::IndexedFacts;
 use std::alloc::Global;
 
-/// What a run tells, and what was noted of the steps of its updates that are done.
+/// The result of a run, and what was noted of the steps of its updates that are done.
 #[derive(Drop)]
 pub struct NotedRun {
     pub result: SessionResult,
@@ -62,7 +62,7 @@ pub fn noted_serial(
     run(alloc, base, updates, &chase)
 }
 
-// The run of these updates over the base, the first of them number 1.
+// The run of these updates over the base; the first of them has number 1.
 fn run(
     alloc: Global,
     base: IndexedFacts,
@@ -93,8 +93,8 @@ fn run(
     })
 }
 
-// Takes the updates whole in turn, up to the first that stops, and gives its stop. It tells their finishes, keeps their
-// notes and keeps their writes.
+// Takes the updates whole in turn, up to the first that stops, and returns its stop. Their finishes and their notes are added,
+// and their writes made.
 fn take_all(
     alloc: Global,
     finishes: &mut FinishList,
@@ -121,8 +121,8 @@ fn take_all(
     Ok(None)
 }
 
-// The turn of the update of this number: taken whole, it ends, and its finish is told and its notes and writes are kept,
-// or it stops.
+// The turn of the update of this number. It is taken whole: if it ends, its finish and its notes are added and its writes made;
+// else it stops.
 fn turn(
     alloc: Global,
     finishes: &mut FinishList,
@@ -171,7 +171,7 @@ fn close(
     }
 }
 
-// Tells the finish of an update that has ended, and keeps its writes and, where it is done, what was noted of it.
+// Adds the finish of an update that has ended, makes the writes that it shows, and, if it is done, adds its notes.
 fn ended(
     alloc: Global,
     finishes: &mut FinishList,
@@ -193,7 +193,7 @@ fn ended(
     Ok(())
 }
 
-// Adds what was noted of an update that has ended, where it is done.
+// Adds what was noted of an update that has ended, if it is done.
 fn keep(notes: &mut NoteList, made: NoteList, done: bool) -> Result<(), Memory>
     ensures kept { OnOk result (notes_in notes.new ≡ notes_in notes.old ++
         (if done then notes_in made else [])) }

@@ -1,4 +1,4 @@
-//! Whether two lists of reasons are one.
+//! Whether two lists of reasons are the same.
 ghost use Rattle.std.specs.Prelude.{◌≡◌, ◌↔◌, IsTrue};
 ghost use Rattle.run_explain.specs.ReasonMeanings.{reasons_in};
 

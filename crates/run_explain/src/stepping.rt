@@ -1,4 +1,4 @@
-//! One step of a program, with what it puts noted.
+//! One step of a program, with a note of what it puts.
 ghost use Rattle.std.specs.Prelude.{◌≡◌, ◌<◌, None, OnOk};
 ghost use Rattle.std.specs.Option.{option_map, option_copied};
 ghost use Rattle.def_chase.specs.Repository.{IsRepository};
@@ -17,9 +17,9 @@ use run_note::noted;
 use set_facts::IndexedFacts;
 use std::alloc::Global;
 
-/// One step of the program over the repository that the view is of, with the answer where it is at a question; what it puts is
-/// noted. The view is of these mappings and in the program's direction. It sees the program's own writes, and then also those of
-/// the step. If it is refused, the program may be within the step.
+/// Makes one step of the program over the repository of the view, with the answer if the program is at a question, and notes
+/// what it puts. The view has these mappings and the program's direction. It sees the program's own writes, and afterwards also
+/// those of the step. On an error, the program may be within the step.
 pub(crate) fn step(
     alloc: Global,
     program: &mut Attempt,

@@ -33,7 +33,7 @@ pub fn told_by(alloc: Global, notes: NoteList, tuple: Tuple) -> Result<Explanati
     Ok(reasons)
 }
 
-// Tells the reasons for the tuples sought that the note's step put, and seeks what they rest on in their place.
+// Adds the reasons for the tuples sought that the note's step put, and seeks what they rest on in their place.
 fn tell(
     alloc: Global,
     reasons: &mut Explanation,
@@ -53,7 +53,7 @@ fn tell(
     Ok(())
 }
 
-// Tells the reason for a tuple that the note's step put, and seeks what it rests on.
+// Adds the reason for a tuple that the note's step put, and seeks what it rests on.
 fn tell_one(
     alloc: Global,
     reasons: &mut Explanation,
@@ -104,7 +104,7 @@ fn how_by(alloc: Global, note: &Note, tuple: &Tuple) -> Result<How, Memory>
     }
 }
 
-// Tells that the tuples are of the base.
+// Adds that the tuples are of the base.
 fn root(alloc: Global, reasons: &mut Explanation, sought: PlainFacts) -> Result<(), Memory>
     ensures rooted { OnOk result
         (reasons_in reasons.new ≡ reasons_in reasons.old ++ map rooted sought) }

@@ -82,7 +82,7 @@ fn with_reason(
     }
 }
 
-// The name of the mapping of a number; nothing where there is none.
+// The name of the mapping of a number; empty if there is none.
 fn mapping_name(mappings: &MappingList, number: u16) -> &[u8]
     ensures name { result.now ≡ name_of (mapping_names (mappings_of mappings.now)) number }
 {
@@ -142,7 +142,7 @@ fn with_rewriting(
         .end_object()
 }
 
-// A generated tuple, but for the image that it was generated for.
+// A generated tuple, without the image that it was generated for.
 #[derive(Clone, Copy)]
 struct Made<'a> {
     update: u32,

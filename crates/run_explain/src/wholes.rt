@@ -18,7 +18,7 @@ use run_step::{Next, what_next};
 use set_facts::IndexedFacts;
 use std::alloc::Global;
 
-/// An update that has come to rest, at its end or at a question where something is lacking, with the notes of its steps.
+/// An update that has come to rest, at its end or at a question at which something is lacking, with the notes of its steps.
 #[derive(Drop)]
 pub(crate) struct Taken {
     pub program: Attempt,
@@ -69,8 +69,8 @@ pub(crate) fn take_whole(
     }
 }
 
-// Makes the steps of the attempt, which has made none, over the repository, up to its rest there, and adds their notes.
-// It gives what is lacking.
+// Makes the steps of the attempt, which has made none, over the repository, up to its rest there, and adds their notes. Returns
+// what is lacking.
 fn go_on(
     alloc: Global,
     program: &mut Attempt,

@@ -1,4 +1,4 @@
--- When each answer of a call of a journal comes, and what it leaves.
+-- When each answer of a call on a journal comes, and what it leaves.
 use Rattle.std.specs.Prelude.{◌≡◌, ◌⊎◌, ℕ, ◌<◌, ◌≤◌, List, map, Result, Ok, Err, length}
 use Rattle.base_devices.specs.States.{State, HasFailed, IsLeft}
 use Rattle.base_roll.specs.declared.rolls.AppendFault.{AppendFault as RollFault}
@@ -26,16 +26,16 @@ use Rattle.run_journal.specs.Damage.{IsDamagedAt}
 abbrev pub writes_of : Commit → List Change
 writes_of commit = logged (map change_of commit.writes.items)
 
--- A session of so many bytes: too large exactly above the limit, and the disk is then as it was. After a fault the disk
--- reads what a crash may leave; so it may for want of memory, if it is not as it was.
+-- The answer for a session of `size` bytes: it is too large exactly above the limit, and the disk is then unchanged. After a
+-- fault the disk reads what a crash may leave. After want of memory it is unchanged, or reads what a crash may leave.
 abbrev pub CreateTold : {D : Type 0} → ℕ → D → D → State → State → Result Hold CreateFault → Type 0
 CreateTold size old new before now (Ok journal) = size ≤ PAYLOAD_LIMIT
 CreateTold size old new before now (Err (creating.TooLarge bytes)) = (bytes ≡ size) × (PAYLOAD_LIMIT < size) × (new ≡ old)
 CreateTold size old new before now (Err creating.DiskFault) = (size ≤ PAYLOAD_LIMIT) × HasFailed before now × IsLeft now now.bytes
 CreateTold size old new before now (Err creating.Memory) = (new ≡ old) ⊎ IsLeft now now.bytes
 
--- A commit of so many bytes: too large exactly above the limit, and the journal and the disk are then as they were. A
--- fault comes only where the disk's count rose; the disk then reads what a crash may leave.
+-- The answer for a commit of `size` bytes: it is too large exactly above the limit, and the journal and the disk are then
+-- unchanged. A fault comes only if the disk's count rose; the disk then reads what a crash may leave.
 abbrev pub AppendTold : {D : Type 0} → Hold → ℕ → D → D → State → State → Result Hold AppendFault → Type 0
 AppendTold journal size old new before now (Ok next) = size ≤ PAYLOAD_LIMIT
 AppendTold journal size old new before now (Err (appending.TooLarge same bytes)) = (same ≡ journal) × (bytes ≡ size) × (PAYLOAD_LIMIT < size) × (new ≡ old)
@@ -43,7 +43,7 @@ AppendTold journal size old new before now (Err appending.DiskFault) = (size ≤
 AppendTold journal size old new before now (Err appending.DiskMemory) = (size ≤ PAYLOAD_LIMIT) × IsLeft now now.bytes
 AppendTold journal size old new before now (Err (appending.Memory same)) = (same ≡ journal) × (new ≡ old)
 
--- What an answer of the roll is for a journal to which commit n was to be appended.
+-- The answer of an append of commit n to a journal, by the answer of the roll.
 abbrev pub answer_of : Hold → ℕ → Result RollHold RollFault → Result Hold AppendFault
 answer_of journal n (Ok roll) = Ok record { gate = roll.gate; commits = n }
 answer_of journal n (Err (rolling.TooLarge roll bytes)) = Err (appending.TooLarge journal bytes)
@@ -51,7 +51,7 @@ answer_of journal n (Err rolling.DiskFault) = Err appending.DiskFault
 answer_of journal n (Err rolling.DiskMemory) = Err appending.DiskMemory
 answer_of journal n (Err (rolling.Memory roll)) = Err (appending.Memory journal)
 
--- what is held is the journal that the bytes are, and D the repository of the session with its commits
+-- the `Hold` is that of the journal that the bytes are, and D is the repository of the session with its commits
 pub record IsHeld (bytes : List ℕ) (s : SessionData) (hold : Hold) (D : List Fact) : Type 0 where
   pub commits : List (List Change)
   pub journal : IsJournal s commits bytes
@@ -74,12 +74,12 @@ pub record IsRecovered (bytes : List ℕ) (r : Recovered) : Type 0 where
   pub hold : r.journal.commits ≡ length commits
   pub repository : map fact_of r.repository.items ≡ repository_of (session_of r.session) commits
 
--- bytes are damaged exactly where they do not begin with a journal
+-- bytes are reported as damaged exactly if they do not begin with a journal
 abbrev pub ReadTold : List ℕ → Result Recovered RecoverFault → Type 0
 ReadTold bytes (Ok r) = IsRecovered bytes r
 ReadTold bytes (Err fault) = FaultTold bytes fault
 
--- and a fault comes only where the disk has failed
+-- a fault comes only if the disk has failed
 abbrev pub RecoverTold : State → State → Result Recovered RecoverFault → Type 0
 RecoverTold before now (Ok r) = IsRecovered before.bytes r
 RecoverTold before now (Err recovering.DiskFault) = HasFailed before now

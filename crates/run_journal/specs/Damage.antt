@@ -11,16 +11,16 @@ use Rattle.run_journal.specs.Journals.{BeginsWith, gate_of}
 abbrev pub HasNoOpening : List ℕ → Type 0
 HasNoOpening bytes = (s : SessionData) (rest : List ℕ) → IsOpening s → bytes ≡ framed (printed s) ++ rest → ⊥
 
--- they do not begin with commit n, whole
+-- the bytes do not begin with the whole commit n
 abbrev pub HasNoCommit : List RelationSchema → ℕ → List ℕ → Type 0
 HasNoCommit relations n bytes = (writes : List Change) (rest : List ℕ) → IsCommit relations n writes
     → bytes ≡ framed (commit_text relations n writes) ++ rest → ⊥
 
--- the gate is missing, or it is open and commit n does not stand behind it
+-- the gate is missing, or it is open and commit n does not stand after it
 abbrev pub IsBroken : List RelationSchema → ℕ → List ℕ → Type 0
 IsBroken relations n rest = (rest ≡ []) ⊎ ((behind : List ℕ) × (rest ≡ 1 ∷ behind) × HasNoCommit relations n behind)
 
--- the bytes are damaged behind whole commits, at the gate that comes next
+-- the bytes are damaged after whole commits, at the next gate
 pub record BreaksAt (bytes : List ℕ) (gate : ℕ) : Type 0 where
   pub session : SessionData
   pub commits : List (List Change)
@@ -29,8 +29,8 @@ pub record BreaksAt (bytes : List ℕ) (gate : ℕ) : Type 0 where
   pub place : gate ≡ gate_of session commits
   pub broken : IsBroken session.relations (length commits + 1) rest
 
--- The bytes are damaged at the place: at 0 where they have no session, else at the gate of the first record that is not
--- whole or no commit, or of the one that is missing.
+-- The bytes are damaged at the place. That is 0 if they have no session; else the place of the gate that is missing, or of the
+-- gate of the first record that is not whole or no commit.
 abbrev pub IsDamagedAt : List ℕ → ℕ → Type 0
 IsDamagedAt bytes place = ((place ≡ 0) × HasNoOpening bytes) ⊎ BreaksAt bytes place
 

@@ -1,4 +1,4 @@
--- What a refusal of the disk is for a journal that is opened.
+-- The refusal of a journal that is opened, by the refusal of the disk.
 use Rattle.base_devices.specs.declared.disks.DiskRefusal.{DiskRefusal}
 use Rattle.base_devices.specs.declared.disks.DiskRefusal.TheVariants as refusals
 use Rattle.run_journal.specs.declared.journals.RecoverFault.{RecoverFault}

@@ -27,7 +27,7 @@ write_lines relations writes = flat_map (λ w. write_text relations w ++ 10 ∷ 
 unfoldable pub commit_line : ℕ → List ℕ
 commit_line n = codes "commit " ++ (decimal n ++ 10 ∷ [])
 
--- a commit: its number, and its writes in turn
+-- a commit: its number, and its writes in order
 abbrev pub commit_text : List RelationSchema → ℕ → List Change → List ℕ
 commit_text relations n writes = commit_line n ++ write_lines relations writes
 
@@ -36,7 +36,7 @@ abbrev pub texts : List RelationSchema → ℕ → List (List Change) → List (
 texts relations n [] = []
 texts relations n (writes ∷ commits) = commit_text relations n writes ∷ texts relations (n + 1) commits
 
--- what stands before the gate of a journal: its session, and its commits from number 1 on
+-- the bytes before the gate of a journal: its session, and its commits from number 1 on
 abbrev pub front : SessionData → List (List Change) → List ℕ
 front s commits = rolls.front (framed (printed s)) (texts s.relations 1 commits)
 
@@ -44,7 +44,7 @@ front s commits = rolls.front (framed (printed s)) (texts s.relations 1 commits)
 abbrev pub journal_text : SessionData → List (List Change) → List ℕ
 journal_text s commits = rolls.roll_text (framed (printed s)) (texts s.relations 1 commits)
 
--- ---- what may stand there
+-- ---- what may stand in a journal
 
 -- the session of a journal: it has no updates, and its printed form fits a length of 4 bytes
 pub record IsOpening (s : SessionData) : Type 0 where
@@ -52,7 +52,7 @@ pub record IsOpening (s : SessionData) : Type 0 where
   pub no_updates : s.updates ≡ []
   pub short : length (printed s) < 2 ^ 32
 
--- a write of a tuple of the relations, whatever updates its nulls are of
+-- a write of a tuple of the relations; its nulls may be of any updates
 abbrev pub IsWrite : List RelationSchema → Change → Type 0
 IsWrite relations (Insert t) = IsTuple relations t
 IsWrite relations (Delete t) = IsTuple relations t
@@ -63,7 +63,7 @@ pub record IsCommit (relations : List RelationSchema) (n : ℕ) (all : List Chan
   pub writes : AllByRecursion (IsWrite relations) all
   pub short : length (commit_text relations n all) < 2 ^ 32
 
--- the first of them is commit n
+-- these are commits, the first of them with number n
 abbrev pub AreCommits : List RelationSchema → ℕ → List (List Change) → Type 0
 AreCommits relations n [] = Unit {0}
 AreCommits relations n (writes ∷ commits) = IsCommit relations n writes × AreCommits relations (n + 1) commits

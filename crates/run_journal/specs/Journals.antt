@@ -7,7 +7,7 @@ use Rattle.def_language.specs.Sessions.{SessionData}
 use Rattle.base_roll.specs.Rolls.{IsClosed}
 use Rattle.run_journal.specs.Format.{front, IsOpening, AreCommits}
 
--- the bytes begin with the session and these commits, and then comes the rest
+-- the bytes begin with the session and these commits, and `rest` comes after them
 pub record BeginsWith (all : List ℕ) (s : SessionData) (those : List (List Change)) (rest : List ℕ) : Type 0 where
   pub opening : IsOpening s
   pub commits : AreCommits s.relations 1 those
@@ -21,31 +21,31 @@ IsJournal s commits bytes = (rest : List ℕ) × BeginsWith bytes s commits rest
 abbrev pub IsWhole : List ℕ → Type 0
 IsWhole bytes = (s : SessionData) × (commits : List (List Change)) × IsJournal s commits bytes
 
--- the place of its gate
+-- the place of the gate of a journal of the session with these commits
 abbrev pub gate_of : SessionData → List (List Change) → ℕ
 gate_of s commits = length (front s commits)
 
--- the place of the gate, and how many commits stand before it
+-- what is kept of a journal: the place of its gate, and how many commits stand before it
 pub record Hold : Type 0 where
   pub gate : ℕ
   pub commits : ℕ
 
--- What is held of a journal is that of the disk: it is on the disk whole, and nothing is pending.
+-- The `Hold` is that of the journal on the disk: the journal is there whole, and nothing is pending.
 pub record IsAt (disk : State) (s : SessionData) (commits : List (List Change)) (hold : Hold) : Type 0 where
   pub journal : IsJournal s commits disk.bytes
   pub settled : IsSettled disk
   pub gate : hold.gate ≡ gate_of s commits
   pub count : hold.commits ≡ length commits
 
--- the repository after commits, in turn
+-- the repository after commits, in order
 abbrev pub after_commits : List Fact → List (List Change) → List Fact
 after_commits D [] = D
 after_commits D (writes ∷ commits) = after_commits (apply D writes) commits
 
--- what a journal stands for: the base of its session with its commits
+-- what a journal stands for: the base of its session after its commits
 abbrev pub repository_of : SessionData → List (List Change) → List Fact
 repository_of s commits = after_commits s.base commits
 
--- it is that of the disk with some commits
+-- the `Hold` is that of a journal on the disk with some commits
 abbrev pub IsInHand : State → SessionData → Hold → Type 0
 IsInHand disk s hold = (commits : List (List Change)) × IsAt disk s commits hold

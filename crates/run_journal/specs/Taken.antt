@@ -6,7 +6,7 @@ use Rattle.def_language.specs.Sessions.{RelationSchema}
 use Rattle.base_roll.specs.Format.{framed}
 use Rattle.run_journal.specs.Format.{commit_text, IsCommit}
 
--- commit n stands at the front of the bytes, and its writes make one repository of the other
+-- commit n stands at the front of the bytes, and its writes make the new repository of the old one
 pub record TakesCommit (relations : List RelationSchema) (n : ℕ) (all rest : List ℕ) (old new : List Fact) : Type 0 where
   pub writes : List Change
   pub commit : IsCommit relations n writes

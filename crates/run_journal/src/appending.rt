@@ -1,4 +1,4 @@
-// A journal is made, and a commit is appended.
+// Makes a journal, and appends a commit.
 ghost use Rattle.std.specs.Prelude.{◌≡◌, ◌+◌, ◌<◌, ◌^◌, ◌++◌, ◌∷◌, [], List, length, IfOk, OnOk};
 ghost use Rattle.std.specs.List.{AllByRecursion};
 ghost use Rattle.def_chase.specs.Repository.{Change};
@@ -28,7 +28,7 @@ fn numbers_fit(number: u32)
     ensures { number < 2 ^ 32 }
 {}
 
-/// Makes a journal of the session, without a commit, on an empty disk. At `Ok` it is on the disk.
+/// Makes a journal of the session, without a commit, on an empty disk. At `Ok` the journal is on the disk.
 pub fn create<D: Disk>(
     alloc: Global,
     disk: &mut D,
@@ -61,7 +61,7 @@ pub fn create<D: Disk>(
     }
 }
 
-// The answer for a journal to which the commit of this number was to be appended, by the answer of the roll.
+// The answer to the append of the commit of this number to the journal, by the answer of the roll.
 fn answer(
     journal: Journal,
     number: u32,
@@ -83,12 +83,12 @@ fn answer(
     }
 }
 
-/// Appends a commit. At `Ok` it is acknowledged: from then on each crash leaves a journal that has it. A
-/// crash at any moment before leaves the journal without it, or with it.
+/// Appends a commit. At `Ok` it is acknowledged: from then on each crash leaves a journal that has it. A crash at any moment
+/// before that leaves the journal without it, or with it.
 ///
-/// The session is the one that the journal begins with, and the commit has the number that comes next. Its
-/// writes are logged in their outer forms, without those that say which mapping is in force; each is of a tuple
-/// of the session's relations.
+/// The session must be the one that the journal begins with, and the commit must have the number that comes next. Its writes
+/// are logged in their outer forms, without those that say which mapping is in force; each is of a tuple of the session's
+/// relations.
 pub fn append<D: Disk>(
     alloc: Global,
     journal: Journal,

@@ -1,4 +1,4 @@
-// What is held of a journal, what goes into it, what comes out of it, and what may go wrong.
+// What is kept of a journal, what goes into it, what comes out of it, and what may go wrong.
 
 use base_devices::DiskRefusal;
 use base_roll::Roll;
@@ -6,7 +6,7 @@ use base_types::{Memory, TupleList, WriteList};
 use lang_session::Session;
 use std::marker::Model;
 
-/// What is held of a journal on a disk: the place of its gate, and how many commits stand before it.
+/// What the program keeps of a journal on a disk: the place of its gate, and how many commits stand before it.
 #[derive(Debug, Drop)]
 pub struct Journal {
     pub(crate) gate: usize,
@@ -32,15 +32,15 @@ impl Journal {
     }
 }
 
-/// What an update commits: its number, and its writes in turn.
+/// What an update commits: its number, and its writes in order.
 #[derive(Debug, Drop)]
 pub struct Commit {
     pub number: u32,
     pub writes: WriteList,
 }
 
-/// What a journal stands for: its session, how many commits it has, the repository that they leave of
-/// the session's base, and what goes on from it.
+/// What a journal stands for: its session, how many commits it has, the repository that they make of the session's base, and
+/// what the next append needs.
 #[derive(Drop)]
 pub struct Recovered {
     pub session: Session,
@@ -49,28 +49,28 @@ pub struct Recovered {
     pub journal: Journal,
 }
 
-/// Why no journal was made. After a fault of the disk or for want of memory the disk is given up.
+/// Why no journal was made. After `DiskFault` or `Memory` the disk must be given up.
 #[derive(Clone, Copy, Debug, PartialEq, Eq)]
 pub enum CreateFault {
-    /// The session has so many bytes in its printed form, which are too many. The disk is unchanged.
+    /// The session's printed form has this number of bytes, which is too many. The disk is unchanged.
     TooLarge(u64),
     /// The disk failed.
     DiskFault,
-    /// Memory was wanting.
+    /// There was no memory for it.
     Memory,
 }
 
-/// Why a commit is not acknowledged. After a fault of the disk or its want of memory the commit may be in the
-/// journal or not, and the journal is opened again by `recover`.
+/// Why a commit is not acknowledged. After `DiskFault` or `DiskMemory` the commit may be in the journal or not, and the journal
+/// must be opened again by `recover`.
 #[derive(Debug, Drop)]
 pub enum AppendFault {
-    /// The commit has so many bytes, which are too many. The journal and the disk are unchanged.
+    /// The text of the commit has this number of bytes, which is too many. The journal and the disk are unchanged.
     TooLarge(Journal, u64),
     /// The disk failed.
     DiskFault,
-    /// Memory for a call of the disk was wanting.
+    /// There was no memory for a call of the disk.
     DiskMemory,
-    /// Memory was wanting before the first call of the disk. The journal and the disk are unchanged.
+    /// There was no memory before the first call of the disk. The journal and the disk are unchanged.
     Memory(Journal),
 }
 
@@ -81,7 +81,7 @@ pub enum RecoverFault {
     DiskFault,
     /// The bytes do not begin with a journal: they are damaged at this place.
     Damaged(u64),
-    /// Memory was wanting.
+    /// There was no memory for it.
     Memory,
 }
 

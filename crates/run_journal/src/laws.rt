@@ -1,4 +1,4 @@
-// Laws of journals, each as the contract of a function that does nothing.
+// Laws of journals. Each is the contract of a function that does nothing.
 ghost use Rattle.std.specs.Prelude.{◌≡◌, ◌≤◌, ◌⊎◌, ℕ, List};
 ghost use Rattle.def_chase.specs.Repository.{Change};
 ghost use Rattle.def_language.specs.Sessions.{SessionData};
@@ -12,7 +12,7 @@ use def_language::{
     spelled_sessions_are_valid, tuples_are_read_again,
 };
 
-/// Bytes are a journal in one way at most.
+/// Bytes are a journal in at most one way.
 pub fn journals_have_one_reading()
     ensures session { (s t : SessionData) (commits others : List (List Change)) (bytes : List ℕ)
         → IsJournal s commits bytes → IsJournal t others bytes → s ≡ t }
@@ -24,7 +24,7 @@ pub fn journals_have_one_reading()
     tuples_are_read_again();
 }
 
-/// Bytes that are damaged at some place are no journal.
+/// Bytes that are damaged at some place are not a journal.
 pub fn damaged_bytes_are_no_journal()
     ensures { (s : SessionData) (commits : List (List Change)) (bytes : List ℕ) (place : ℕ)
         → IsDamagedAt bytes place → IsJournal s commits bytes → ⊥ }
@@ -34,7 +34,7 @@ pub fn damaged_bytes_are_no_journal()
     tuples_are_read_again();
 }
 
-/// Each input is a journal, or damaged at some place.
+/// Each input is a journal, or is damaged at some place.
 pub fn inputs_are_journals_or_damaged()
     ensures { (bytes : List ℕ) → IsWhole bytes ⊎ IsDamaged bytes }
 {
@@ -45,8 +45,8 @@ pub fn inputs_are_journals_or_damaged()
     lines_say_tuples();
 }
 
-/// Over any list of appends, each with any faults of the disk, and a crash at any moment of any of them: what is left is
-/// a journal that has each commit which was acknowledged by then, in order, and none that was not handed in.
+/// Let there be any list of appends, each with any faults of the disk, and a crash at any moment of any of them. The disk then
+/// has a journal with each commit that was acknowledged by then, in order, and with none that was not handed in.
 pub fn crashes_keep_what_is_acknowledged<D: Disk>()
     ensures { (s : SessionData) (commits : List (List Change)) (start : D)
         (turns : List (Turn (List Change) D)) (k : ℕ) (bytes : List ℕ)

@@ -1,7 +1,6 @@
 //! A journal of commits on a disk, which survives a crash at any moment.
 //!
-//! Its README says how; `specs/Format.antt` has the format, and `specs/Journals.antt` what bytes stand
-//! for.
+//! The README says how. `specs/Format.antt` has the format, and `specs/Journals.antt` says what bytes stand for.
 #![tactic(auto)]
 
 mod appending;

@@ -51,7 +51,7 @@ fn push_write(
     push_tuple(alloc, text, schema, sign, tuple)
 }
 
-// Adds the lines of writes, in turn.
+// Adds the lines of writes, in order.
 fn push_writes(
     alloc: Global,
     text: &mut Vec<u8>,

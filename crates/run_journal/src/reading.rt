@@ -1,4 +1,4 @@
-// What bytes stand for, read from the front.
+// What the bytes of a journal stand for, read from the front.
 ghost use Rattle.std.specs.Prelude.{◌≡◌, ◌+◌, ◌<◌, ◌≤◌, ◌^◌, ◌++◌, ◌∷◌, [], false, true, ℕ, List, map, length, IfOk, IfErr, IfSome, IfNone, OnOk};
 ghost use Rattle.std.specs.List.{AllByRecursion};
 ghost use Rattle.def_chase.specs.Values.{Fact};
@@ -33,7 +33,7 @@ use memchr::memchr;
 use set_facts::PlainFacts;
 use std::alloc::Global;
 
-// The line at the front, and what stands behind its line feed; None where there is no line feed.
+// The line at the front, and the text after its line feed; None if there is no line feed.
 fn first_line(text: &[u8]) -> Option<(&[u8], &[u8])>
     ensures line { IfSome result (λ parts. text.now ≡ parts.0.now ++ (10 ∷ parts.1.now)) }
     ensures one_line { IfSome result (λ parts. IsOneLine parts.0.now) }
@@ -45,7 +45,7 @@ fn first_line(text: &[u8]) -> Option<(&[u8], &[u8])>
     }
 }
 
-// What stands behind the head of a text; None where the text does not begin with it.
+// The text after its head; None if the text does not begin with the head.
 fn behind<'a>(head: &[u8], text: &'a [u8]) -> Option<&'a [u8]>
     ensures some { IfSome result (λ rest. text.now ≡ head.now ++ rest.now) }
     ensures none { IfNone result ((rest : List ℕ) → text.now ≡ head.now ++ rest → ⊥) }
@@ -57,7 +57,7 @@ fn behind<'a>(head: &[u8], text: &'a [u8]) -> Option<&'a [u8]>
     if front == head { Some(rest) } else { None }
 }
 
-// The tuple, where the text is its printed form.
+// The tuple, if the text is its printed form.
 fn if_printed(
     alloc: Global,
     session: &Session,
@@ -99,7 +99,7 @@ fn read_printed(alloc: Global, session: &Session, text: &[u8]) -> Result<Option<
     }
 }
 
-// The write of the tuple by its sign; None where it is no sign.
+// The write of the tuple by its sign; None if the byte is no sign.
 fn signed(sign: u8, tuple: Tuple) -> Option<Write>
     ensures text { IfSome result (λ w.
         (relations : List RelationSchema)
@@ -191,7 +191,7 @@ fn read_commit(
     }
 }
 
-// Makes the writes in turn.
+// Makes the writes in order.
 fn make(facts: &mut PlainFacts, writes: WriteList) -> Result<(), Memory>
     ensures made { OnOk result (facts.new ≡ apply facts.old (map change_of writes.items)) }
 {
@@ -215,8 +215,8 @@ fn make_one(facts: &mut PlainFacts, write: Write) -> Result<(), Memory>
     Ok(())
 }
 
-// Takes the commit of this number at the front of the bytes, and makes its writes; what stands behind it is left. None
-// where the bytes do not begin with it.
+// Takes the commit of this number from the front of the bytes, makes its writes, and returns the bytes after it. None if the
+// bytes do not begin with it.
 fn take_commit<'a>(
     alloc: Global,
     session: &Session,
@@ -241,7 +241,7 @@ fn take_commit<'a>(
     Ok(Some(rest))
 }
 
-// Whether the payload is the printed form of the session, and it has no updates.
+// Whether the payload is the printed form of the session, and the session has no updates.
 fn is_opening(alloc: Global, session: &Session, payload: &[u8]) -> Result<bool, Memory>
     ensures yes { IfOk result (λ yes. yes ≡ true →
         ((session_of session.now).updates ≡ [])
@@ -259,7 +259,7 @@ fn is_opening(alloc: Global, session: &Session, payload: &[u8]) -> Result<bool, 
     Ok(false)
 }
 
-// The session, where the payload is its printed form and it has no updates.
+// The session, if the payload is its printed form and it has no updates.
 fn if_opening(alloc: Global, session: Session, payload: &[u8]) -> Result<Option<Session>, Memory>
     ensures some { IfOk result (λ found.
         IfSome found (λ s.
@@ -276,7 +276,7 @@ fn if_opening(alloc: Global, session: Session, payload: &[u8]) -> Result<Option<
     }
 }
 
-// Whether the first byte is that of a header.
+// Whether the payload begins with the first byte of a header.
 fn begins_header(payload: &[u8]) -> bool
     ensures { result ≡ begins_header payload.now }
 {
@@ -306,7 +306,8 @@ fn read_opening(alloc: Global, payload: &[u8]) -> Result<Option<Session>, Memory
     }
 }
 
-// What is held of the journal whose commits the records are, up to the gate that is not open; they are made in the base.
+// The `Journal` whose commits the records are, up to the first gate that is not open. The commits are made in `facts`, which is
+// the base before.
 fn read_commits(
     alloc: Global,
     session: &Session,
@@ -341,7 +342,7 @@ fn read_commits(
     }
 }
 
-// What is held of the journal, and the repository that its commits make of the session's base.
+// The `Journal`, and the repository that its commits make of the session's base.
 fn read_records(
     alloc: Global,
     session: &Session,
@@ -358,7 +359,7 @@ fn read_records(
     Ok((journal, facts.into_list(alloc)?))
 }
 
-// What the session and the records behind it stand for.
+// What the session and the records after it stand for.
 fn recovered(
     alloc: Global,
     session: Session,

@@ -1,4 +1,4 @@
-// A journal is opened again.
+// Opens a journal again.
 ghost use Rattle.std.specs.Prelude.{OnOk};
 ghost use Rattle.base_devices.specs.States.{IsSettled};
 ghost use Rattle.base_roll.specs.Histories.{IsReading};
@@ -10,12 +10,12 @@ use base_devices::Disk;
 use base_roll::load_synced;
 use std::alloc::Global;
 
-/// Opens the journal that the disk begins with: its session, and the base of that with the commits of the
-/// journal, in turn. It writes nothing. At `Ok` the journal is in hand and nothing is pending.
+/// Opens the journal that the disk begins with: its session, and the session's base after the commits of the journal, in order.
+/// Nothing is written. At `Ok` nothing is pending on the disk.
 ///
-/// `Damaged` comes exactly where the bytes do not begin with a journal. It tells the first place at which they
-/// do not: 0 where they have no whole session; else that of the gate of the first record that is not whole or no
-/// commit, or of the gate that is missing.
+/// `Damaged` comes exactly if the bytes do not begin with a journal. It has the first place at which they do not. That is 0 if
+/// they have no whole session; else the place of the gate that is missing, or of the gate of the first record that is not whole
+/// or no commit.
 pub fn recover<D: Disk>(alloc: Global, disk: &mut D) -> Result<Recovered, RecoverFault>
     ensures told { RecoverTold (D.state disk.old) (D.state disk.new) result }
     ensures opened { IsReading (D.state disk.old) (D.state disk.new) }

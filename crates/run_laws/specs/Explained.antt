@@ -16,11 +16,11 @@ use Rattle.lang_session.specs.Meanings.{requests_in}
 abbrev pub steps_of : ℕ → SessionData → List Step
 steps_of budget s = serial_steps every (rules_of s.mappings) budget s.base (turns_of (rules_of s.mappings) budget (requests_in s))
 
--- The explanation of a tuple in what it leaves.
+-- The explanation of a tuple in what the serial machine leaves.
 abbrev pub explained_in : ℕ → SessionData → Fact → Option (List Reason)
 explained_in budget s t = explanation (rules_of s.mappings) budget s.base (requests_in s) t
 
--- Each of its reasons is true of the session's base and of these steps.
+-- Each reason of such an explanation is true of the session's base and of these steps.
 abbrev pub ExplainsTruly : ℕ → SessionData → Type 0
 ExplainsTruly budget s =
     (t : Fact) (reasons : List Reason) → explained_in budget s t ≡ Some reasons

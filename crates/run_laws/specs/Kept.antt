@@ -16,7 +16,7 @@ use Rattle.lang_report.specs.Saved.{is_too_large, saved, stays_in_force}
 abbrev pub left_by : ℕ → SessionData → List Fact
 left_by budget s = (serial_told budget s).repository
 
--- Every mapping that is in force at the end of what is told of a session holds in the repository that it tells.
+-- Every mapping that is in force at the end of the run, by its result, holds in the repository of the result.
 abbrev pub InForceHold : SessionData → ResultTold → Type 0
 InForceHold s told =
     (n : ℕ) (m : SessionMapping) → slice_get s.mappings n ≡ Some m → stays_in_force told.finishes m ≡ true → Holds m.rule told.repository
@@ -28,18 +28,18 @@ pub record IsRunnable (budget : ℕ) (s : SessionData) : Type 0 where
   pub some : 1 ≤ budget
   pub most : budget ≤ 1000001
 
--- The session that begins with it.
+-- The session that is saved of the serial machine's run, with a budget of steps for each update.
 abbrev pub saved_by : ℕ → SessionData → SessionData
 saved_by budget s = saved s (serial_told budget s)
 
--- Every tuple that is left is one of a relation of the session.
+-- Every tuple that the run leaves is a tuple of one of the session's relations.
 abbrev pub LeavesFacts : ℕ → SessionData → Type 0
 LeavesFacts budget s = AllByRecursion (IsFact s.relations (length s.updates)) (left_by budget s)
 
--- What is saved is a session, where it is not too large.
+-- The saved session is a session, if it is not too large.
 abbrev pub SavesSession : ℕ → SessionData → Type 0
 SavesSession budget s = is_too_large (saved_by budget s) ≡ false → IsSession (saved_by budget s)
 
--- Its printed form then spells it.
+-- The printed form of the saved session spells it, if it is not too large.
 abbrev pub SavesSpelled : ℕ → SessionData → Type 0
 SavesSpelled budget s = is_too_large (saved_by budget s) ≡ false → Spells (printed (saved_by budget s)) (saved_by budget s)

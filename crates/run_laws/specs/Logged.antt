@@ -1,4 +1,4 @@
--- What of a session goes into its journal, and what the serial machine leaves after some of the updates.
+-- What goes into the journal of a session, and what the serial machine leaves after some of the updates.
 use Rattle.std.specs.Prelude.{◌≡◌, ℕ, ◌≤◌, List, [], map, take}
 use Rattle.std.specs.List.{AllByRecursion}
 use Rattle.def_chase.specs.Values.{Fact}
@@ -19,11 +19,11 @@ use Rattle.run_journal.specs.declared.journals.Recovered.{Recovered}
 abbrev pub opening_of : SessionData → SessionData
 opening_of s = record { format = s.format; relations = s.relations; mappings = initial_mappings s.mappings; base = s.base; updates = [] }
 
--- Trails as commits: of each write what is logged.
+-- Trails as commits: the logged form of each write.
 abbrev pub commits_of : List (List Change) → List (List Change)
 commits_of trails = map logged trails
 
--- The journal of what a session begins with and these trails.
+-- The journal of the beginning of a session and these trails.
 abbrev pub journal_of : SessionData → List (List Change) → List ℕ
 journal_of s trails = journal_text (opening_of s) (commits_of trails)
 
@@ -33,11 +33,11 @@ pub record IsRun (steps : ℕ) (s : SessionData) : Type 0 where
   pub some : 1 ≤ steps
   pub most : steps ≤ 1000001
 
--- The repository that the serial machine leaves after the first k updates, as it is told.
+-- The repository that the serial machine leaves after the first k updates, as it is reported.
 abbrev pub left_after : ℕ → ℕ → SessionData → List Fact
 left_after k steps s = (serial_result (rules_of s.mappings) steps s.base (take k (requests_in s))).repository
 
--- All that is logged are writes of tuples of the relations.
+-- All logged writes are of tuples of the relations.
 abbrev pub AreLogged : List RelationSchema → List (List Change) → Type 0
 AreLogged relations commits = AllByRecursion (AllByRecursion (IsWrite relations)) commits
 
@@ -45,7 +45,7 @@ AreLogged relations commits = AllByRecursion (AllByRecursion (IsWrite relations)
 abbrev pub StandFor : ℕ → ℕ → SessionData → Type 0
 StandFor k steps s = repository_of (opening_of s) (take k (commits_of (trails_by steps s))) ≡ left_after k steps s
 
--- What is recovered of a journal with the first k commits of the run is what the serial machine leaves after the first k updates.
+-- The journal with the first k commits of the run recovers to what the serial machine leaves after the first k updates.
 abbrev pub RecoversAfter : ℕ → ℕ → SessionData → Type 0
 RecoversAfter k steps s =
     (bytes : List ℕ) (r : Recovered) → IsJournal (opening_of s) (take k (commits_of (trails_by steps s))) bytes → IsRecovered bytes r

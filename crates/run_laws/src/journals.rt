@@ -7,13 +7,13 @@ ghost use Rattle.run_laws.specs.Logged.{AreLogged, IsRun, RecoversAfter, StandFo
 
 use run_journal::journals_have_one_reading;
 
-/// What a valid session begins with is a session.
+/// The beginning of a valid session is a session.
 pub fn openings_are_sessions()
     ensures { (s : SessionData) → IsSession s → IsSession (opening_of s) }
 {}
 
-/// What is logged of the serial machine's trails are writes of tuples of the session's relations. There is a trail for no
-/// more than each update.
+/// Only writes of tuples of the session's relations are logged of the serial machine's trails. There are at most as many trails
+/// as updates.
 pub fn trails_are_logged()
     ensures logged { (steps : ℕ) (s : SessionData) → IsRun steps s →
         AreLogged s.relations (commits_of (trails_by steps s)) }
@@ -21,7 +21,7 @@ pub fn trails_are_logged()
 {}
 
 /// The journal of a session's base and trails, cut after any commit, stands for what the serial machine leaves after that
-/// many updates, and recovers to it.
+/// number of updates, and recovers to it.
 pub fn journals_recover_the_serial_run()
     ensures stand { (k steps : ℕ) (s : SessionData) → IsRun steps s → StandFor k steps s }
     ensures recovered { (k steps : ℕ) (s : SessionData) → IsRun steps s → RecoversAfter k steps s }

@@ -19,8 +19,9 @@ ghost use Rattle.lang_session.specs.Base.{base_violation};
 use def_language::sessions_are_read_again;
 use def_provenance::laws::reasons_are_true;
 
-/// Every tuple that the serial machine leaves of a valid session is one of a relation of it: as many values as columns, each an
-/// integer of 64 bits, a text of at most 256 bytes of UTF-8, or a null of the base or of an update. They are in order.
+/// Every tuple that the serial machine leaves of a valid session is a tuple of one of its relations: as many values as columns,
+/// each an integer of 64 bits, a text of at most 256 bytes of UTF-8, or a null of the base or of an update. The tuples are in
+/// order.
 pub fn runs_leave_facts()
     ensures facts { (budget : ℕ) (s : SessionData) →
         IsSession s → 1 ≤ budget → budget ≤ 1000001 → LeavesFacts budget s }
@@ -28,7 +29,7 @@ pub fn runs_leave_facts()
         IsSession s → 1 ≤ budget → budget ≤ 1000001 → IsRepository (left_by budget s) }
 {}
 
-/// What is saved of a run is a session, where it is not too large, and its printed form spells it.
+/// If the saved session of a run is not too large, it is a session, and its printed form spells it.
 pub fn saved_sessions_are_sessions()
     ensures session { (budget : ℕ) (s : SessionData) →
         IsSession s → 1 ≤ budget → budget ≤ 1000001 → SavesSession budget s }
@@ -38,26 +39,26 @@ pub fn saved_sessions_are_sessions()
     sessions_are_read_again();
 }
 
-/// Every mapping that is in force at the end of a run holds in the repository that the run leaves, where the base of the
-/// session meets the mappings: those in force from the start, and those that an update which is done has put in force.
+/// If the base of the session meets the mappings, every mapping that is in force at the end of a run holds in the repository
+/// that the run leaves: those in force from the start, and those that an update which is done has put in force.
 pub fn runs_meet_their_mappings()
     ensures { (budget : ℕ) (s : SessionData) → IsRunnable budget s →
         InForceHold s (serial_told budget s) }
 {}
 
-/// The base of what is saved is the repository under other names for its nulls, which keep their order and tell them apart.
+/// The base of a saved session is the repository under other names for its nulls, which keep their order and stay different.
 pub fn bases_are_renamed()
     ensures { (s : SessionData) (r : ResultTold) → IsRenamed r.repository (saved s r).base }
 {}
 
-/// The base of what is saved meets its mappings, where that of the session that ran does.
+/// The base of a saved session meets its mappings, if the base of the session that ran does.
 pub fn bases_meet_their_mappings()
     ensures { (budget : ℕ) (s : SessionData) →
         IsRunnable budget s → base_violation (saved_by budget s) ≡ None }
 {}
 
-/// A mapping without a null among its constants holds under other names for the nulls where it holds. Under such names a
-/// repository is one.
+/// A mapping without a null among its constants that holds in a repository also holds in it under other names for the nulls. A
+/// repository stays one under such names.
 pub fn names_keep_mappings()
     ensures hold { (m : Rule) (D E : List Fact) → HasNoNull m → IsRenamed D E → Holds m D →
         Holds m E }
@@ -72,7 +73,7 @@ pub fn explanations_are_true()
     reasons_are_true();
 }
 
-/// The same session in format 2 is a session too, and the serial machine tells the same of it.
+/// The same session in format 2 is a session too, and the serial machine's result is the same.
 pub fn upgrades_tell_the_same()
     ensures session { (s : SessionData) → IsSession s → IsSession (upgraded s) }
     ensures told { (budget : ℕ) (s : SessionData) →

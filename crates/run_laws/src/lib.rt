@@ -1,5 +1,5 @@
-//! What a run leaves, as laws over the definitions: what it leaves fits the session, and the saved session is a session
-//! whose base is what the run left, under other names for its nulls.
+//! What a run leaves, as laws over the definitions: it fits the session, and the saved session is a session whose base is what
+//! the run left, under other names for its nulls.
 //!
 //! Each law is the contract of a function that does nothing, so that it is proved and can be cited.
 #![tactic(auto)]

@@ -24,7 +24,7 @@ seen_in v = apply v.below v.own
 abbrev pub holders_in : List Fact → NullName → List Fact
 holders_in E n = filter (holds_null n.update n.place) E
 
--- The way of a step of the repair in hand, by its mapping and values, with the answer where a question is asked about it.
+-- The way of a step of the present repair, by its mapping and values, with the answer if a question is asked about it.
 abbrev pub way_of_bound : List Rule → Phase → Bound → Option Choice → Way
 way_of_bound ms p b None = Generates b.mapping (image_of ms b.mapping b.values)
 way_of_bound ms p b (Some Expand) = Generates b.mapping (image_of ms b.mapping b.values)
@@ -35,7 +35,7 @@ way_of_bound ms p b (Some (Drop os)) = Generates b.mapping (image_of ms b.mappin
 abbrev pub move_of : List Rule → List Fact → Attempt → Option Choice → Move
 move_of ms D P c = result_of (λ q. value ms q D P.own (caused P.operation)) (step ms P c)
 
--- That step.
+-- P's step over D with this answer.
 abbrev pub step_of : List Rule → List Fact → Attempt → Option Choice → Step
 step_of ms D P c = step_by ms D P c (move_of ms D P c)
 
@@ -43,7 +43,7 @@ step_of ms D P c = step_by ms D P c (move_of ms D P c)
 abbrev pub HasChanged : Step → Changed → Type 0
 HasChanged s c = (facts_of c.deleted ≡ (note s).deleted) × (facts_of c.puts ≡ (note s).puts)
 
--- The test holds, or it does not, as is wanted.
+-- The test holds if `true` is wanted, and fails if `false` is wanted.
 abbrev pub is_so : Bool → Bool → Bool
 is_so true b = b
 is_so false b = not b

@@ -1,4 +1,4 @@
-//! What a step of an update did: the step made, and its note.
+//! What a step of an update did: the step is made, and its note is taken.
 #![tactic(auto)]
 
 mod made;

@@ -21,9 +21,9 @@ use run_step::{make, see_all};
 use set_facts::IndexedFacts;
 use std::alloc::Global;
 
-/// Makes one step of the program over the repository that the view is of, with the answer where it is at a question, and gives
-/// its note, whether it puts a tuple or not. The view is of these mappings and in the program's direction. It sees the program's
-/// own writes, and then also those of the step. If it is refused, the program may be within the step.
+/// Makes one step of the program over the repository of the view, with the answer if the program is at a question. Returns its
+/// note, whether or not it puts a tuple. The view has these mappings and the program's direction. It sees the program's own
+/// writes, and afterwards also those of the step. On an error, the program may be within the step.
 pub fn noted(
     alloc: Global,
     program: &mut Attempt,
@@ -63,7 +63,7 @@ struct Changed {
     puts: TupleList,
 }
 
-// Makes the step, and gives what it deleted and put.
+// Makes the step, and returns what it deleted and put.
 fn carry_out(
     alloc: Global,
     program: &mut Attempt,

@@ -2,15 +2,15 @@
 
 use base_types::{Sub, TupleList, Value};
 
-/// A substitution: of one value for another, or of a unifier.
+/// A substitution: of one value for another, or by a unifier.
 #[derive(Drop)]
 pub enum Rewriting {
     Replaces { from: Value, to: Value },
     Unifies(Sub),
 }
 
-/// How a step comes to the tuples that it puts: as they were handed in; as right sides of the mapping of this number,
-/// for this image of the left side; or by a substitution in others. A step that puts none is said to go the first way.
+/// How a step comes to the tuples that it puts: they were handed in; they are the right side of the mapping of this number, for
+/// this image of the left side; or they come by a substitution in others. A step that puts none has the first way.
 #[derive(Drop)]
 pub enum Way {
     Inserts,
@@ -18,7 +18,7 @@ pub enum Way {
     Rewrites(Rewriting),
 }
 
-/// A step by its update and its number there, its way, the tuples that it deleted, and those that it put.
+/// The note of a step: its update and its number there, its way, the tuples that it deleted, and those that it put.
 #[derive(Drop)]
 pub struct Note {
     pub update: u32,

@@ -25,7 +25,7 @@ use chase_update::{Attempt, standing_for};
 use set_facts::IndexedFacts;
 use std::alloc::Global;
 
-/// The way of the program's next step over what is seen in the view, with the answer where it is at a question.
+/// The way of the program's next step over what is seen in the view, with the answer if the program is at a question.
 pub(crate) fn way(
     alloc: Global,
     program: &Attempt,
@@ -102,7 +102,7 @@ fn stands(
     stands_by(alloc, name, &answer)
 }
 
-// What a named null stands for by an answer that gives the tuples which hold it.
+// What a named null stands for, by a reply with the tuples that hold it.
 fn stands_by(alloc: Global, name: Null, answer: &Reply) -> Result<Value, Memory>
     ensures value { IfOk result (λ known. datum_of known ≡
         standing_for (null_of name) (tuples_of (reply_of answer.now))) }
@@ -116,7 +116,7 @@ fn stands_by(alloc: Global, name: Null, answer: &Reply) -> Result<Value, Memory>
     }
 }
 
-// The way of a step of the repair in hand, with the answer where the program is at a question.
+// The way of a step of the present repair, with the answer if the program is at a question.
 fn way_of_repair(
     alloc: Global,
     program: &Attempt,
@@ -140,7 +140,7 @@ fn way_of_repair(
     }
 }
 
-// That it generates, with the image of the violation under repair.
+// The way of a step that generates tuples, with the image of the violation under repair.
 fn generates(alloc: Global, bound: Bound<'_>, mappings: &Mappings<'_>) -> Result<Way, Memory>
     ensures way { IfOk result (λ way. way_of way ≡ Generates (bound_of bound.entry).mapping
         (image_of mappings.now (bound_of bound.entry).mapping (bound_of bound.entry).values)) }

@@ -14,7 +14,7 @@ use chase_query::{Query, Reply};
 use set_facts::IndexedFacts;
 use std::alloc::Global;
 
-/// The own writes behind the first so many.
+/// The own writes after the first `seen`.
 pub(crate) fn latest(own: &WriteList, seen: usize) -> &[Write]
     requires some { seen ≤ length own.now.items }
     ensures latest { map change_of result.now ≡ drop seen (changes_of own.now) }
@@ -35,7 +35,7 @@ pub(crate) fn absent(
     those(alloc, view, inserted(alloc, writes)?, false)
 }
 
-/// Those of the tuples that are seen in the view.
+/// The tuples of the list that are seen in the view.
 pub(crate) fn present(
     alloc: Global,
     view: &mut WatchedView<'_, IndexedFacts>,
@@ -48,7 +48,7 @@ pub(crate) fn present(
     those(alloc, view, tuples, true)
 }
 
-// Those of the tuples that are seen in the view, or those that are not.
+// The tuples of the list that are seen in the view, or those that are not.
 fn those(
     alloc: Global,
     view: &mut WatchedView<'_, IndexedFacts>,
@@ -68,7 +68,7 @@ fn those(
     Ok(those)
 }
 
-// Whether the tuple is seen in the view, or is not, as is wanted.
+// Whether the tuple is seen in the view, or whether it is not seen, as `seen` wants.
 fn is_wanted(
     alloc: Global,
     view: &mut WatchedView<'_, IndexedFacts>,
@@ -105,7 +105,7 @@ fn is_yes(answer: &Reply) -> bool
     matches!(answer, Reply::Yes)
 }
 
-// The tuples that the writes insert, in turn.
+// The tuples that the writes insert, in order.
 fn inserted(alloc: Global, writes: &[Write]) -> Result<TupleList, Memory>
     ensures inserted { IfOk result
         (λ tuples. facts_of tuples ≡ inserted_def (map change_of writes.now)) }
@@ -120,7 +120,7 @@ fn inserted(alloc: Global, writes: &[Write]) -> Result<TupleList, Memory>
     Ok(tuples)
 }
 
-/// The tuples that the writes delete, in turn.
+/// The tuples that the writes delete, in order.
 pub(crate) fn deleted(alloc: Global, writes: &[Write]) -> Result<TupleList, Memory>
     ensures deleted { IfOk result
         (λ tuples. facts_of tuples ≡ deleted_def (map change_of writes.now)) }

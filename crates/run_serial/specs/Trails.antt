@@ -30,7 +30,7 @@ pub record TrailsTold : Type 0 where
   pub trails : List (List Change)
   pub stop : Option StopTold
 
--- The trails of a result: of each finish what is shown of it, its own writes after Done and none after Spent or Refused.
+-- The trails of a result: of each finish the writes that it shows, its own writes after Done and none after Spent or Refused.
 abbrev pub trailed : (scope : Operation → Scope) (ms : List Rule) (B : ℕ) → Result (chase scope ms B) → TrailsTold
 trailed scope ms B r =
     record {
@@ -38,11 +38,11 @@ trailed scope ms B r =
       stop = option_map stop_in (told scope ms B r).stop;
     }
 
--- Those of the serial machine.
+-- The trails and the stop of the serial machine.
 abbrev pub serial_trailed : List Rule → ℕ → List Fact → List Request → TrailsTold
 serial_trailed ms B D rs = trailed every ms B (serial (whole_chase ms B) D (turns_of ms B rs))
 
--- The trails of the serial machine's run of a session, with so many steps for each update.
+-- The trails of the serial machine's run of a session, with a budget of B steps for each update.
 abbrev pub trails_by : ℕ → SessionData → List (List Change)
 trails_by B s = (serial_trailed (rules_of s.mappings) B s.base (requests_in s)).trails
 
@@ -60,15 +60,15 @@ IsTrailed B s t = trailed_of t ≡ serial_trailed (rules_of s.mappings) B s.base
 
 -- ---- turn by turn
 
--- What is left of these updates, taken whole in turn over D. The first of them has the number n.
+-- What these updates leave, taken whole in turn over D. The first of them has the number n.
 unfoldable pub trailed_from : List Rule → ℕ → List Fact → ℕ → List Request → TrailsTold
 trailed_from ms B D n rs = trailed caused ms B (serial (caused_chase ms B) D (turns_in caused ms B n rs))
 
--- These trails, and then what else is left.
+-- What is left with these trails before its own.
 abbrev pub behind : List (List Change) → TrailsTold → TrailsTold
 behind ts r = record { trails = ts ++ r.trails; stop = r.stop }
 
--- What is left after a turn: the stop there, if there is one, or what the updates leave that come next.
+-- What is left after a turn: the stop there, if there is one, or what the next updates leave.
 abbrev pub trailed_after : List Rule → ℕ → List Fact → ℕ → List Request → Option StopTold → TrailsTold
 trailed_after ms B D n rs None = trailed_from ms B D n rs
 trailed_after ms B D n rs (Some s) = record { trails = []; stop = Some s }
@@ -79,11 +79,12 @@ IsTrail writes outcome trail =
     (ms : List Rule) (B : ℕ) (P : Attempt) → changes_of writes ≡ P.own → option_map end_in (outcome_in P.phase) ≡ Some (end_of outcome)
     → changes_of trail ≡ shown (caused_chase ms B) P
 
--- To the trails that of the attempt was added.
+-- The trail of the attempt was added to the trails.
 abbrev pub HasLeft : Attempt → Listed (Listed Write) → Listed (Listed Write) → Type 0
 HasLeft P ts ts' = (ms : List Rule) (B : ℕ) → trails_of ts' ≡ trails_of ts ++ shown (caused_chase ms B) P ∷ []
 
--- The turn of update n is over: what was to be left by it and the updates after it, behind those trails, is left behind these, over D'.
+-- The turn of update n is over. The old trails, and then what update n and the later ones leave over D, are the new trails, and
+-- then what the later ones leave over D'.
 abbrev pub HasTrailed : List Rule → ℕ → ℕ → SessionUpdate → Listed (Listed Write) → List Fact → Listed (Listed Write) → List Fact → Option Stop → Type 0
 HasTrailed ms B n u ts D ts' D' stop =
     (rs : List Request) → behind (trails_of ts) (trailed_from ms B D n (request_of (update_of u) ∷ rs))

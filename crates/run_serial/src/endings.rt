@@ -1,4 +1,4 @@
-//! What is told of an update that has come to rest.
+//! What is reported of an update that has come to rest.
 ghost use Rattle.std.specs.Prelude.{◌≡◌, ℕ, [], ◌∷◌, true, map, is_some, None, Some, IfOk, OnOk, OnErr};
 ghost use Rattle.std.specs.Option.{option_map};
 ghost use Rattle.def_steps.specs.Attempts.{question_in, outcome_in};
@@ -14,7 +14,7 @@ use chase_update::{Attempt, Finish, FinishList, Lack, Stop, Want};
 use set_facts::IndexedFacts;
 use std::alloc::Global;
 
-/// What is told of an update that has ended.
+/// The finish of an update that has ended.
 pub(crate) fn finish(program: &Attempt) -> Finish
     requires between { program.now.reading ≡ None }
     requires ended { is_some (outcome_in program.now.attempt.phase) ≡ true }
@@ -33,7 +33,7 @@ pub(crate) fn finish(program: &Attempt) -> Finish
     }
 }
 
-/// What is told of the update of this number, which stops at a question for what is lacking and is given up.
+/// The stop of the update of this number, which is at a question at which this is lacking; the attempt is dropped.
 pub fn stop(alloc: Global, program: Attempt, number: u32, lack: Lack) -> Result<Stop, Memory>
     requires between { program.reading ≡ None }
     requires asked { is_some (question_in program.attempt.phase) ≡ true }
@@ -46,7 +46,7 @@ pub fn stop(alloc: Global, program: Attempt, number: u32, lack: Lack) -> Result<
     told
 }
 
-// What is told of the update of this number, at its question.
+// The stop of the update of this number, at its question.
 fn stop_at(alloc: Global, program: &Attempt, number: u32, lack: Lack) -> Result<Stop, Memory>
     requires between { program.now.reading ≡ None }
     requires asked { is_some (question_in program.now.attempt.phase) ≡ true }
@@ -67,8 +67,8 @@ fn stop_at(alloc: Global, program: &Attempt, number: u32, lack: Lack) -> Result<
     }
 }
 
-/// Tells the finish of an update that has ended, and keeps its writes. If it is refused, the finishes are unchanged, and some of
-/// the writes, the first ones, may have been made.
+/// Adds the finish of an update that has ended, and makes the writes that it shows. On an error the finishes are unchanged, and
+/// some of the writes, from the first on, may have been made.
 pub fn end(
     alloc: Global,
     finishes: &mut FinishList,

@@ -1,8 +1,8 @@
-//! The serial run of a session: its updates taken whole over a repository, one after the other in the order of their
-//! numbers, up to the first that stops at a question. `serial` tells what the serial machine of `def_steps` tells, and
-//! `trails` what each update leaves written.
+//! The serial run of a session: its updates taken whole over a repository, one after the other in the order of their numbers,
+//! up to the first that stops at a question. `serial` returns the result of the serial machine of `def_steps`, and `trails` the
+//! writes that each update leaves.
 //!
-//! The parts of a turn are public, so that a run which keeps more of its steps is made of the same.
+//! The parts of a turn are public, so that a run which keeps more of its steps can use them.
 #![tactic(auto)]
 
 pub mod endings;

@@ -1,4 +1,4 @@
-//! The repository of a run: what an update leaves in it, and what is told of it.
+//! The repository of a run: what an update leaves in it, and what is reported of it.
 ghost use Rattle.std.specs.Prelude.{◌≡◌, IfOk, OnOk, OnErr};
 ghost use Rattle.def_chase.specs.Repository.{apply, change};
 ghost use Rattle.base_types.specs.Meanings.{change_of};
@@ -11,8 +11,8 @@ use chase_update::Outcome;
 use set_facts::IndexedFacts;
 use std::alloc::Global;
 
-/// Makes the writes of an update that has ended so: where it is done those that it made, and else none. If it is refused, some of
-/// them, the first ones, may have been made.
+/// Makes the writes of an update that has ended so, if it is done; else makes none. On an error some of them, from the first
+/// on, may have been made.
 pub(crate) fn keep(
     facts: &mut IndexedFacts,
     writes: WriteList,
@@ -61,7 +61,7 @@ pub fn told(alloc: Global, facts: IndexedFacts) -> Result<TupleList, Memory>
     Ok(without_force(facts.into_list(alloc)?))
 }
 
-// The tuples but for those that say which mappings are in force.
+// The tuples without those that say which mappings are in force.
 fn without_force(tuples: TupleList) -> TupleList
     ensures others { facts_of result ≡ answered (facts_of tuples) }
 {

@@ -38,8 +38,8 @@ pub fn mappings_of(session: &Session) -> Mappings<'_>
     Mappings::of(&session.mappings)
 }
 
-/// The serial run of a session: its updates taken whole, one after the other in the order of their numbers, up to the first that
-/// stops at a question.
+/// The serial run of a session: its updates taken whole, one after the other in the order of their numbers, up to the first
+/// that stops at a question.
 pub fn serial(alloc: Global, session: &Session, budget: Budget) -> Result<SessionResult, Memory>
     requires valid { IsSession (session_of session.now) }
     requires met { base_violation (session_of session.now) ≡ None }
@@ -70,7 +70,7 @@ pub fn serial_over(
     run(alloc, base, updates, mappings, budget)
 }
 
-// The run of these updates over the base, the first of them number 1.
+// The run of these updates over the base; the first of them has number 1.
 fn run(
     alloc: Global,
     base: IndexedFacts,
@@ -95,8 +95,8 @@ fn run(
     })
 }
 
-// Takes the updates whole in turn, up to the first that stops, and gives its stop. It tells their finishes, and keeps
-// their writes.
+// Takes the updates whole in turn, up to the first that stops, and returns its stop. Their finishes are added, and the writes
+// that they show are made.
 fn take_all(
     alloc: Global,
     finishes: &mut FinishList,
@@ -120,8 +120,8 @@ fn take_all(
     Ok(None)
 }
 
-// The turn of the update of this number: taken whole, it ends, and its finish is told and its writes are kept, or it
-// stops.
+// The turn of the update of this number. It is taken whole: if it ends, its finish is added and the writes that it shows are
+// made; else it stops.
 fn turn(
     alloc: Global,
     finishes: &mut FinishList,

@@ -24,8 +24,8 @@ use std::alloc::Global;
 /// Trails in the order of their updates.
 pub type TrailList = List<WriteList>;
 
-/// What a run leaves: the trail of each update that came to its end, which is its own writes where it is done, and
-/// else none; and the stop, if there is one.
+/// What a run leaves: the trail of each update that came to its end, and the stop, if there is one. The trail of an update that
+/// is done is its own writes; of any other it is empty.
 #[derive(Drop)]
 pub struct Trailed {
     pub trails: TrailList,
@@ -52,7 +52,7 @@ pub fn trails(
     run(alloc, base, updates, mappings, budget)
 }
 
-// What these updates leave over the base, the first of them number 1.
+// What these updates leave over the base; the first of them has number 1.
 fn run(
     alloc: Global,
     base: IndexedFacts,
@@ -73,7 +73,7 @@ fn run(
     Ok(Trailed { trails, stop })
 }
 
-// Takes the updates whole in turn, up to the first that stops, and gives its stop. It adds their trails.
+// Takes the updates whole in turn, up to the first that stops, and returns its stop. Their trails are added.
 fn take_all(
     alloc: Global,
     trails: &mut TrailList,
@@ -97,7 +97,7 @@ fn take_all(
     Ok(None)
 }
 
-// The turn of the update of this number: taken whole, it ends, and its trail is added and made, or it stops.
+// The turn of the update of this number. It is taken whole: if it ends, its trail is added and made; else it stops.
 fn turn(
     alloc: Global,
     trails: &mut TrailList,

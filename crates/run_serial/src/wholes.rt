@@ -1,4 +1,4 @@
-//! An update taken whole: steps up to its end, or to a question where something is lacking.
+//! An update taken whole: steps up to its end, or to a question at which something is lacking.
 ghost use Rattle.std.specs.Prelude.{◌≡◌, ◌<◌, [], IfOk, OnOk, None, is_some, is_none};
 ghost use Rattle.base_types.specs.Contents.{choices_of};
 ghost use Rattle.def_chase.specs.Repository.{IsRepository};
@@ -16,7 +16,7 @@ use run_step::{Next, step, what_next};
 use set_facts::IndexedFacts;
 use std::alloc::Global;
 
-/// An update that has come to rest: at its end, or at a question where something is lacking.
+/// An update that has come to rest: at its end, or at a question at which something is lacking.
 #[derive(Drop)]
 pub(crate) struct Rest {
     pub program: Attempt,
@@ -58,8 +58,7 @@ pub(crate) fn take_whole(
     }
 }
 
-// Makes the steps of the attempt, which has made none, over the repository, up to its rest there. It gives what is
-// lacking.
+// Makes the steps of the attempt, which has made none, over the repository, up to its rest there. Returns what is lacking.
 fn go_on(
     alloc: Global,
     program: &mut Attempt,
@@ -85,7 +84,8 @@ fn go_on(
     go_with(alloc, program, &mut view, answers, mappings.all(), budget)
 }
 
-// The same with a view of the repository, which is of these mappings, in the update's direction, and sees its writes.
+// Makes the steps of the attempt up to its rest, with a view of the repository. The view has these mappings and the update's
+// direction, and sees the update's writes.
 fn go_with(
     alloc: Global,
     program: &mut Attempt,
