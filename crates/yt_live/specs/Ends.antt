@@ -74,8 +74,8 @@ abbrev pub TookPrefix : Due → Change → Change → List ℕ → Type 0
 TookPrefix due source out took = TakesSome out (due.at_end (took ++ left_of source.bytes_after)).replies
 
 -- What each end says, if at most `room` bytes may be read. With `Ended`, and if the session is refused, the sink took exactly the
--- replies to what was read; with any other end it took a prefix of them. The end is `TooLong` only if one byte more than `room`
--- was read.
+-- replies to what was read; with any other end it took a prefix of them. The end is `TooLong` if and only if one byte more than
+-- `room` was read.
 abbrev pub Ends : Due → ℕ → LiveEnd → Change → Change → Type 0
 Ends due room ends.Ended source out = Gave room source (λ took. HasEnded (due.at_end took) source out)
 Ends due room ends.ReadFault source out = Gave room source (λ took. StopsBy GoesOn (due.so_far took) out) × Fails source
