@@ -52,7 +52,7 @@ HasParts relations (WasAnswered e) = IsReadAgain relations e.choice
 HasParts relations (WasWithdrawn e) = IsWord e.committed × AllByRecursion HasWords e.causes
 
 -- The entry is of one of the first 1,000 updates, its numbers have at most 64 bits, its texts are UTF-8, and its choice is read
--- again.
+-- again from its text.
 pub record IsPrintable (relations : List RelationSchema) (e : PlainEntry) : Type 0 where
   pub least : 1 ≤ update_told (told_by e)
   pub most : update_told (told_by e) ≤ 1000

@@ -6,7 +6,7 @@ use Rattle.def_language.specs.Words.{Word, name, words_at}
 use Rattle.def_language.specs.Bytes.{is_line_feed}
 use Rattle.def_language.specs.declared.tokens.LexRefusal.{LexRefusal}
 
--- a byte at the front of the first of some lines
+-- the lines with a byte at the front of the first of them
 abbrev pub onto_first : ℕ → List (List ℕ) → List (List ℕ)
 onto_first b [] = (b ∷ []) ∷ []
 onto_first b (line ∷ lines) = (b ∷ line) ∷ lines
@@ -16,7 +16,7 @@ abbrev pub lines_in : List ℕ → List (List ℕ)
 lines_in [] = []
 lines_in (b ∷ bs) = if is_line_feed b then (b ∷ []) ∷ lines_in bs else onto_first b (lines_in bs)
 
--- The lines before the first that passes a test, and those from it on.
+-- The lines before the first that passes a test; then, the lines from that one on.
 abbrev pub before : (List ℕ → Bool) → List (List ℕ) → List (List ℕ)
 before test [] = []
 before test (line ∷ lines) = if test line then [] else line ∷ before test lines
@@ -25,7 +25,7 @@ abbrev pub from : (List ℕ → Bool) → List (List ℕ) → List (List ℕ)
 from test [] = []
 from test (line ∷ lines) = if test line then line ∷ lines else from test lines
 
--- what stands before the first line feed
+-- the text before the first line feed
 abbrev pub bare : List ℕ → List ℕ
 bare [] = []
 bare (b ∷ bs) = if is_line_feed b then [] else b ∷ bare bs
@@ -42,19 +42,19 @@ is_end line = are_end (words_at (bare line))
 abbrev pub is_head : List ℕ → Bool
 is_head line = starts_with nat_eq line (codes "trace ")
 
--- A session goes up to and with the first line that is an end, and is all where none is.
+-- The session: the text up to and with the first line that is an end, or the whole text if there is none.
 abbrev pub session_in : List ℕ → List ℕ
 session_in input = concat (before is_end (lines_in input)) ++ concat (take 1 (from is_end (lines_in input)))
 
--- what stands behind it
+-- what follows the session
 abbrev pub behind_session : List ℕ → List ℕ
 behind_session input = concat (drop 1 (from is_end (lines_in input)))
 
--- A text is taken for a result text by its first line.
+-- A text counts as a result text by its first line.
 abbrev pub IsResult : List ℕ → Type 0
 IsResult text = bare text ≡ codes "youtopia result 1"
 
--- It goes up to the first line that begins a trace, or to the end.
+-- The result text: up to the first line that begins a trace, or to the end.
 abbrev pub result_in : List ℕ → List ℕ
 result_in text = concat (before is_head (lines_in text))
 

@@ -1,4 +1,4 @@
--- What a line of a trace tells: an event, with the number of its update.
+-- What a line of a trace claims: an event, with the number of its update.
 use Rattle.std.specs.Prelude.{ℕ, List, codes}
 use Rattle.def_chase.specs.Updates.{Choice}
 
@@ -18,7 +18,7 @@ update_told (Delivery u) = u
 update_told (Answer u c) = u
 update_told (Withdrawal u) = u
 
--- how the event is called
+-- the name of the event
 abbrev pub name_told : Told → List ℕ
 name_told (Admission u) = codes "admitted"
 name_told (Step u) = codes "stepped"

@@ -15,13 +15,13 @@ use Rattle.audit_claims.specs.Forms.{HasLines, HasNoLines}
 use Rattle.audit_claims.specs.Told.{Told, Admission, Step, Delivery, Answer, Withdrawal}
 use Rattle.audit_claims.specs.Claimed.{told_by}
 
--- What is wrong with a line: it tells no event, or an event that is not allowed, or not what that event does.
+-- What is wrong with a line: it claims no event, or an event that is not allowed, or another effect than the event has.
 pub data Why : Type 0 where
   Form : Why
   NotAllowed : Why
   Effect : Why
 
--- Yes, of so many entries, and whether it is quiet after them; or the first line at fault, and why.
+-- Yes, with the number of entries and whether nothing is left to do after them; or No, with the first line at fault, and why.
 pub data Verdict : Type 0 where
   Yes : ℕ → Bool → Verdict
   No : ℕ → Why → Verdict
@@ -31,7 +31,7 @@ pub record Trial : Type 0 where
   pub relations : List RelationSchema
   pub over : Ground
 
--- The session with all its updates, with so many steps for each attempt and these settings.
+-- The session with all its updates, with `budget` steps for each attempt and these settings.
 abbrev pub trial_of : SessionData → ℕ → Settings → Trial
 trial_of s budget c =
     record {
@@ -39,7 +39,7 @@ trial_of s budget c =
       over = record { rules = rules_of s.mappings; budget = budget; settings = c; base = s.base; requests = requests_in s; later = [] };
     }
 
--- The event of a history.
+-- The claimed event as an event of a history.
 abbrev pub event_told : (g : Ground) → Told → Event (machine g)
 event_told g (Admission u) = Admits
 event_told g (Step u) = Steps u
@@ -49,7 +49,7 @@ event_told g (Withdrawal u) = Withdraws u
 
 -- ---- a history, and its lines
 
--- It is the turn of what is told, behind so many entries: the next update of the session is admitted, or all are.
+-- After n entries it is the turn of the event: it admits the next update of the session, or all of them are admitted.
 abbrev pub IsTurn : Ground → ℕ → Told → Type 0
 IsTurn g n (Admission u) = (n < length g.requests) × (u ≡ suc n)
 IsTurn g n (Step u) = length g.requests ≤ n
@@ -57,7 +57,7 @@ IsTurn g n (Delivery u) = length g.requests ≤ n
 IsTurn g n (Answer u c) = length g.requests ≤ n
 IsTurn g n (Withdrawal u) = length g.requests ≤ n
 
--- The admissions of the session's updates come first, in order, and no others come.
+-- The admissions of the session's updates come first, in order, and there are no other admissions.
 abbrev pub AdmitsFirst : Ground → List PlainEntry → Type 0
 AdmitsFirst g H = (k : ℕ) (e : PlainEntry) → slice_get H k ≡ Some e → IsTurn g k (told_by e)
 
@@ -66,12 +66,12 @@ pub record IsHistory (g : Ground) (H : List PlainEntry) : Type 0 where
   pub legal : IsLegalOver g H
   pub first : AdmitsFirst g H
 
--- The line is that of the entry, and tells its event.
+-- The line is the one of the entry, and claims its event.
 pub record IsLineOf (relations : List RelationSchema) (line : List ℕ) (e : PlainEntry) : Type 0 where
   pub text : line ++ 10 ∷ [] ≡ entry_line relations e
   pub tells : Tells relations line (told_by e)
 
--- The lines are those of the entries, one for each.
+-- The lines are the ones of the entries, one for each.
 abbrev pub AreLinesOf : List RelationSchema → List (List ℕ) → List PlainEntry → Type 0
 AreLinesOf relations [] [] = Unit {0}
 AreLinesOf relations [] (e ∷ H) = ⊥
@@ -80,11 +80,11 @@ AreLinesOf relations (line ∷ lines) (e ∷ H) = IsLineOf relations line e × A
 
 -- ---- what is wrong
 
--- It is the turn of what is told, after these entries.
+-- After these entries it is the turn of the event.
 abbrev pub IsDue : Ground → List PlainEntry → Told → Type 0
 IsDue g H e = IsTurn g (length H) e
 
--- This is wrong with a line that stands behind the text of these entries.
+-- What is wrong with a line that follows the text of these entries.
 abbrev pub IsWrong : Trial → List PlainEntry → List ℕ → Why → Type 0
 IsWrong t H line Form = TellsNothing t.relations line
 IsWrong t H line NotAllowed =
@@ -93,12 +93,12 @@ IsWrong t H line Effect =
     (e : Told) × (x : PlainEntry) × Tells t.relations line e × IsDue t.over H e
     × (grown t.over H (event_told t.over e) ≡ Some (H ++ x ∷ [])) × (line ++ 10 ∷ [] ≡ entry_line t.relations x → ⊥)
 
--- The first line at fault among those behind the first, by its number from 1, and what is wrong with it.
+-- The first line at fault among the lines after the head: its number in the text, from 1, and what is wrong with it.
 pub data IsFaultIn (t : Trial) (lines : List (List ℕ)) : ℕ → Why → Type 0 where
-  -- a line behind those that are the text of a history
+  -- a line after lines that are the text of a history
   at : (H : List PlainEntry) (before after : List (List ℕ)) (line : List ℕ) (why : Why) → lines ≡ before ++ line ∷ after
       → IsHistory t.over H → AreLinesOf t.relations before H → IsWrong t H line why → IsFaultIn t lines (length before + 2) why
-  -- the end, before all updates of the session are admitted
+  -- the text ends before all updates of the session are admitted
   early : (H : List PlainEntry) → IsHistory t.over H → AreLinesOf t.relations lines H → length H < length t.over.requests
       → IsFaultIn t lines (length lines + 2) NotAllowed
 
@@ -109,7 +109,7 @@ pub data IsFault (t : Trial) (text : List ℕ) : ℕ → Why → Type 0 where
 
 -- ---- verdicts
 
--- The text is that of a history, whose lines tell its events, and in which all updates of the session are admitted.
+-- The text is the trace of a history whose lines claim its events, and in which all updates of the session are admitted.
 pub record IsTraceOf (t : Trial) (text : List ℕ) (H : List PlainEntry) : Type 0 where
   pub same : text ≡ trace_text t.relations H
   pub history : IsHistory t.over H
@@ -122,12 +122,12 @@ pub record IsTraceOf (t : Trial) (text : List ℕ) (H : List PlainEntry) : Type 
 abbrev pub is_quiet_after : Ground → List PlainEntry → Bool
 is_quiet_after g H = is_quiet (machine g) g.settings (updates_after g H)
 
--- The verdict on a text: it is the trace of a history with so many entries, or this is its first fault.
+-- The verdict on a text: it is the trace of a history with n entries, or it has this first fault.
 abbrev pub IsVerdict : Trial → List ℕ → Verdict → Type 0
 IsVerdict t text (Yes n quiet) = (H : List PlainEntry) × IsTraceOf t text H × (n ≡ length H) × (quiet ≡ is_quiet_after t.over H)
 IsVerdict t text (No line why) = IsFault t text line why
 
--- ---- how a verdict is told
+-- ---- the words of a verdict
 
 abbrev pub why_word : Why → List ℕ
 why_word Form = codes " form"

@@ -1,4 +1,4 @@
-//! The choice that a text is.
+//! The choice that a text spells.
 ghost use Rattle.std.specs.Prelude.{◌≡◌, ◌↔◌, map, IfNone, IfOk, IfSome, IsTrue};
 ghost use Rattle.std.specs.Option.{option_map};
 ghost use Rattle.base_types.specs.Meanings.{choice_of, fact_of};
@@ -20,15 +20,15 @@ use std::alloc::Global;
 /// What a text says over the relations of a schema.
 #[derive(Debug, Drop)]
 pub enum ChoiceText {
-    /// It is not what may follow the label of an answer.
+    /// It is nothing that may follow the label of an answer.
     Malformed,
-    /// It is, and the schema lacks a relation of it, or has one with another number of columns.
+    /// It may follow the label of an answer, but the schema lacks one of its relations, or has it with another number of columns.
     Unknown,
     /// It is this choice.
     Choice(Choice),
 }
 
-/// Reads the text of a choice as it stands behind the label of an answer. A null may come from any update.
+/// Reads the text of a choice as it stands after the label of an answer. A null may come from any update.
 pub fn read_choice(alloc: Global, schema: &Schema, text: &[u8]) -> Result<ChoiceText, Memory>
     ensures says { IfOk result (SaysChoice schema.now text.now) }
 {
@@ -57,14 +57,14 @@ fn written_choice(alloc: Global, text: &[u8]) -> Result<Option<RawChoice>, Memor
     choice_on(alloc, text)
 }
 
-// Whether no line feed stands in a text.
+// Whether a text has no line feed.
 fn is_one_line(text: &[u8]) -> bool
     ensures one_line { IsTrue result ↔ IsOneLine text.now }
 {
     memchr(b'\n', text).is_none()
 }
 
-// The choice that the words of a line are, if they are one.
+// The choice that the words of a line spell, if they spell one.
 fn choice_on(alloc: Global, line: &[u8]) -> Result<Option<RawChoice>, Memory>
     ensures choice { IfOk result (λ found. IsRead found (choice_on line.now)) }
 {
@@ -75,7 +75,7 @@ fn choice_on(alloc: Global, line: &[u8]) -> Result<Option<RawChoice>, Memory>
     }
 }
 
-// The choice that the words are, if they are one.
+// The choice that the words spell, if they spell one.
 fn choice_in(alloc: Global, words: Words<'_>) -> Result<Option<RawChoice>, Memory>
     ensures choice { IfOk result (λ found. IsRead found (choice_at (words_of words.entry))) }
 {
@@ -86,7 +86,7 @@ fn choice_in(alloc: Global, words: Words<'_>) -> Result<Option<RawChoice>, Memor
     }
 }
 
-// The choice over the relations; None where a fact's relation is not known or has another number of columns.
+// The choice over the relations; None if a fact's relation is unknown or has another number of columns.
 fn known_choice(
     alloc: Global,
     schema: &Schema,
@@ -104,7 +104,7 @@ fn known_choice(
     }
 }
 
-// The tuples of facts; None where a relation of one is not known or has another number of columns.
+// The tuples of facts; None if a fact's relation is unknown or has another number of columns.
 fn known_facts(
     alloc: Global,
     schema: &Schema,

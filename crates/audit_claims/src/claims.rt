@@ -1,4 +1,4 @@
-//! Which event a line of a trace tells.
+//! Which event a line of a trace claims.
 ghost use Rattle.std.specs.Prelude.{codes, IfOk};
 ghost use Rattle.std.specs.Option.{option_map};
 ghost use Rattle.serde_json.specs.View.{view};
@@ -11,7 +11,7 @@ use lang_schema::Schema;
 use serde_json::Value;
 use std::alloc::Global;
 
-/// The event that a line tells, with the number of its update.
+/// The event that a line claims, with the number of its update.
 #[derive(Debug, Drop)]
 pub enum Claim {
     Admitted(u32),
@@ -21,11 +21,11 @@ pub enum Claim {
     Withdrawn(u32),
 }
 
-// The most that the number of an update may be.
+// The greatest number of an update.
 const MOST: u64 = MOST_UPDATES as u64;
 
-/// The event that a line tells, if it tells one: it is a JSON object that names an event and the number of an update, and for an
-/// answer a choice.
+/// Reads the event that a line claims, if it claims one: the line is a JSON object that names an event and the number of an
+/// update, and for an answer also a choice.
 pub fn read_claim(alloc: Global, schema: &Schema, line: &[u8]) -> Result<Option<Claim>, Memory>
     ensures claim { IfOk result (IsClaimOn schema.now line.now) }
 {
@@ -40,7 +40,7 @@ pub fn read_claim(alloc: Global, schema: &Schema, line: &[u8]) -> Result<Option<
     }
 }
 
-// The event that an object tells.
+// The event that an object claims.
 fn claim_in(alloc: Global, schema: &Schema, object: &Value) -> Result<Option<Claim>, Memory>
     ensures claim { IfOk result (IsClaimIn schema.now (view object.now)) }
 {
@@ -99,7 +99,7 @@ fn plain_claim(event: &str, update: u32) -> Option<Claim>
     }
 }
 
-// The answer that an object tells.
+// The answer that an object claims.
 fn answer_in(
     alloc: Global,
     schema: &Schema,

@@ -1,4 +1,4 @@
-//! Laws of the lines of a trace.
+//! Laws on the lines of a trace.
 ghost use Rattle.std.specs.Prelude.{◌≡◌, ◌-◌, ◌^◌, ℕ, List};
 ghost use Rattle.audit_claims.specs.Claims.{Tells};
 ghost use Rattle.audit_claims.specs.Told.{Told};
@@ -13,13 +13,13 @@ use def_language::{
     words_are_read_again,
 };
 
-/// The line that is printed of an entry tells its event: the kind, the update, and the choice of an answer.
+/// The printed line of an entry claims its event: the kind, the update, and the choice of an answer.
 pub fn printed_entries_are_claimed()
     ensures { (relations : List RelationSchema) (e : PlainEntry) → IsPrintable relations e →
         Tells relations (entry_text relations e) (told_by e) }
 {}
 
-/// The printed choice over the relations of a session is read again, whatever updates its nulls are of.
+/// A choice over the relations of a session, once printed, is read again as itself, whatever updates its nulls are of.
 pub fn choices_are_read_again()
     ensures { (s : SessionData) (c : Choice) → IsSession s → IsChoice s.relations (2 ^ 32 - 1) c →
         IsReadAgain s.relations c }
@@ -30,7 +30,7 @@ pub fn choices_are_read_again()
     tuples_are_read_again();
 }
 
-/// A line tells no more than one event.
+/// A line claims at most one event.
 pub fn lines_claim_one_event()
     ensures { (relations : List RelationSchema) (line : List ℕ) (d e : Told) →
         Tells relations line d → Tells relations line e → d ≡ e }

@@ -1,5 +1,5 @@
-//! What a trace claims, line by line, before anything is judged: its form, and the event that each line tells; and where in
-//! an auditor's input it stands.
+//! What a trace claims, line by line, before anything is judged: its form, the event of each line, and where the trace stands in
+//! an auditor's input.
 #![tactic(auto)]
 
 mod choices;

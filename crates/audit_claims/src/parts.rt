@@ -8,8 +8,8 @@ ghost use Rattle.audit_claims.specs.Parts.{IsResult, are_end, bare, before, behi
 use lang_forms::{Word, Words};
 use memchr::memchr;
 
-/// The session at the front of an input, up to and with its first line that holds `end` and no other token, and what stands
-/// behind it. Without such a line it is the whole.
+/// The session at the front of an input, and what follows it. The session ends with the first line that holds `end` and no other
+/// token; without such a line it is the whole input.
 pub fn session_part(input: &[u8]) -> (&[u8], &[u8])
     ensures session { result.0.now ≡ session_in input.now }
     ensures behind { result.1.now ≡ behind_session input.now }
@@ -22,8 +22,8 @@ pub fn session_part(input: &[u8]) -> (&[u8], &[u8])
     (&input[..end], &input[end..])
 }
 
-/// The result text at the front of what stands behind a session, if its first line is one's, and what stands behind that:
-/// from the first line on that begins with `trace` and a space.
+/// Splits what follows a session into its result text and the rest; None if its first line is not the first line of a result
+/// text. The rest begins with the first line that begins with `trace` and a space.
 pub fn result_part(text: &[u8]) -> Option<(&[u8], &[u8])>
     ensures none { IfNone result (IsResult text.now → ⊥) }
     ensures some { IfSome result (λ x. IsResult text.now) }
@@ -37,7 +37,7 @@ pub fn result_part(text: &[u8]) -> Option<(&[u8], &[u8])>
     Some((&text[..place], &text[place..]))
 }
 
-/// Which line is looked for.
+/// Which line is searched for.
 #[derive(Clone, Copy)]
 enum Mark {
     /// It holds `end` and no other token.
@@ -46,7 +46,7 @@ enum Mark {
     Trace,
 }
 
-// Where the first such line begins; the end, where there is none.
+// The place where the first such line begins, or the text's end if there is none.
 fn place_of(mark: Mark, text: &[u8]) -> usize
     ensures within { result ≤ length text.now }
     ensures before { take result text.now ≡ concat (before (passes mark) (lines_in text.now)) }
@@ -63,7 +63,7 @@ fn place_of(mark: Mark, text: &[u8]) -> usize
     place
 }
 
-// Where the first line ends, behind its line feed if it has one.
+// The place where the first line ends, after its line feed if it has one.
 fn line_end(text: &[u8]) -> usize
     requires some { 0 < length text.now }
     ensures within { result ≤ length text.now }
@@ -76,7 +76,7 @@ fn line_end(text: &[u8]) -> usize
     }
 }
 
-// What stands before the first line feed.
+// The text before the first line feed.
 fn bare(text: &[u8]) -> &[u8]
     ensures bare { result.now ≡ bare text.now }
 {
@@ -86,7 +86,7 @@ fn bare(text: &[u8]) -> &[u8]
     }
 }
 
-// Whether the line is such a one.
+// Whether the line is the one that the mark searches for.
 fn passes(mark: Mark, line: &[u8]) -> bool
     ensures passes { result ≡ passes mark line.now }
 {

@@ -1,4 +1,4 @@
-//! Laws of verdicts.
+//! Laws on verdicts.
 ghost use Rattle.std.specs.Prelude.{◌≡◌, ◌≤◌, ℕ, List, length};
 ghost use Rattle.std.specs.List.{AllByRecursion};
 ghost use Rattle.audit_claims.specs.Claimed.{IsPrintable};
@@ -9,7 +9,7 @@ ghost use Rattle.audit_claims.specs.Verdicts.{IsHistory, IsVerdict, Trial, Verdi
 use crate::{lines_claim_one_event, printed_entries_are_claimed};
 use def_history::cores::entries_are_plain;
 
-/// There is one verdict on a text: it is the trace of one history, or it has one first fault.
+/// A text has at most one verdict: it is the trace of one history, or it has one first fault.
 pub fn verdicts_are_one()
     ensures { (t : Trial) (text : List ℕ) (v w : Verdict) → IsVerdict t text v → IsVerdict t text w →
         v ≡ w }
@@ -18,8 +18,7 @@ pub fn verdicts_are_one()
     entries_are_plain();
 }
 
-/// The trace of a legal history in which the admissions come first, and all of them, has the verdict yes, where its entries can be
-/// printed.
+/// The trace of a legal history has the verdict yes, if all admissions of the session come first and its entries can be printed.
 pub fn histories_have_their_verdict()
     ensures { (t : Trial) (H : List PlainEntry) → IsHistory t.over H →
         length t.over.requests ≤ length H → AllByRecursion (IsPrintable t.relations) H →

@@ -1,4 +1,4 @@
--- The first of an update's reads that has another value now, of those that mention one of some relations.
+-- The first of an update's reads that mentions one of some relations and has another value now.
 use Rattle.std.specs.Prelude.{◌≡◌, ℕ, Bool, not, ◌&&◌, ◌+◌, List, take, Option}
 use Rattle.std.specs.List.{list_any}
 use Rattle.std.specs.Option.{option_map}
@@ -18,23 +18,24 @@ use Rattle.audit_replay.specs.declared.changes.Change.{Change}
 abbrev pub meets : List Rule → List ℕ → Query → Bool
 meets ms relations q = list_any (mentions ms q) relations
 
--- The read does.
+-- The read mentions one of the relations.
 abbrev pub is_read_met : List Rule → List ℕ → Read → Bool
 is_read_met ms relations r = meets ms relations r.query
 
--- One of the reads does.
+-- One of the reads mentions one of the relations.
 abbrev pub any_met : List Rule → List ℕ → List Read → Bool
 any_met ms relations rs = list_any (is_read_met ms relations) rs
 
--- The value of the read over D, by an attempt in this direction whose own writes are these: those count that were made when it asked.
+-- The value of the read over D, for an attempt in this direction with these own writes, of which only the ones count that were
+-- made before the read.
 abbrev pub value_now : List Rule → Direction → List Fact → List Write → Read → Reply
 value_now ms h D own r = value ms r.query D (take r.own own) (Caused h)
 
--- It has another value than its logged answer.
+-- The read has another value over D than its logged reply.
 abbrev pub is_changed : List Rule → Direction → List Fact → List Write → Read → Bool
 is_changed ms h D own r = not (same_reply r.reply (value_now ms h D own r))
 
--- It mentions one of the relations, and has another value over D.
+-- The read mentions one of the relations, and has another value over D.
 abbrev pub is_met_and_changed : List Rule → List ℕ → Direction → List Fact → List Write → Read → Bool
 is_met_and_changed ms relations h D own r = meets ms relations r.query && is_changed ms h D own r
 
@@ -52,11 +53,11 @@ change_meant c = record { number = c.number; read = read_of c.read; now = reply_
 abbrev pub changed_at : List Rule → Direction → List Fact → List Write → ℕ × Read → ChangeMeant
 changed_at ms h D own t = record { number = t.0; read = t.1; now = value_now ms h D own t.1 }
 
--- The first of these reads that passes, with its number where n reads come before them.
+-- The first of these reads that passes the test, with its number, if n reads come before them.
 abbrev pub first_behind : (Read → Bool) → ℕ → List Read → Option (ℕ × Read)
 first_behind p n rs = option_map (λ t. (n + t.0, t.1)) (first_that p rs)
 
--- The first of them that mentions one of the relations and has another value over D.
+-- The first of these reads, after n others, that mentions one of the relations and has another value over D.
 abbrev pub first_change_behind : ℕ → List Rule → List ℕ → Direction → List Fact → List Write → List Read → Option ChangeMeant
 first_change_behind n ms relations h D own rs = option_map (changed_at ms h D own) (first_behind (is_met_and_changed ms relations h D own) n rs)
 
@@ -64,7 +65,7 @@ first_change_behind n ms relations h D own rs = option_map (changed_at ms h D ow
 abbrev pub first_change : List Rule → List ℕ → Direction → List Fact → List Write → List Read → Option ChangeMeant
 first_change ms relations h D own log = option_map (changed_at ms h D own) (first_that (is_met_and_changed ms relations h D own) log)
 
--- It is that read of the audited update.
+-- The result is the first read of the audited update that mentions one of the relations and has another value over D.
 abbrev pub IsFirstChange : List Rule → List ℕ → List Fact → AuditedUpdate → Option Change → Type 0
 IsFirstChange ms relations D r found =
     option_map change_meant found ≡ first_change ms relations (direction_of r.program.attempt.operation) D r.program.attempt.own (reads_in r.log.items)

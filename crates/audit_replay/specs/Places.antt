@@ -1,4 +1,4 @@
--- Audited updates and their trails, as levels of a set are made of them.
+-- Audited updates and their trails as levels of a set.
 use Rattle.std.specs.Prelude.{◌≡◌, ℕ, ◌≤◌, List, [], ◌∷◌, map, take, length}
 use Rattle.def_machine.specs.Updates.{trail}
 use Rattle.def_chase.specs.Repository.{Change}
@@ -18,24 +18,24 @@ AreBetween (r ∷ rs) = IsBetween r.program × AreBetween rs
 abbrev pub trail_of : AuditedUpdate → List Change
 trail_of r = trail (caused_chase [] 0) (update_of [] 0 r)
 
--- The levels are D and what lies above each of so many of the audited updates, the uppermost one first.
+-- The levels are D and D with the trails of the first 1, 2, .., k audited updates, the uppermost one first.
 abbrev pub StandOn : List Fact → List AuditedUpdate → ℕ → List (List Fact) → Type 0
 StandOn D rs k levels = levels ≡ laid [] D (map trail_of (take k rs))
 
--- The levels stand on some of the audited updates.
+-- The levels are D with the trails of some first audited updates.
 pub record Stand (D : List Fact) (rs : List AuditedUpdate) (levels : List (List Fact)) : Type 0 where
   pub many : ℕ
   pub within : many ≤ length rs
   pub stand : StandOn D rs many levels
 
--- Levels that stood on some of the audited updates still do.
+-- Levels that stood on some first audited updates still do, perhaps on another number of them.
 abbrev pub StandStill : List (List Fact) → List (List Fact) → Type 0
 StandStill old new = (D : List Fact) (rs : List AuditedUpdate) → Stand D rs old → Stand D rs new
 
--- They have risen to so many.
+-- The levels have risen to k audited updates.
 abbrev pub HaveRisen : ℕ → List AuditedUpdate → List (List Fact) → List (List Fact) → Type 0
 HaveRisen k rs old new = (D : List Fact) → Stand D rs old → StandOn D rs k new
 
--- From any number of the audited updates the levels have come to so many.
+-- From any number of audited updates the levels have moved to k of them.
 abbrev pub HaveCome : ℕ → List AuditedUpdate → List (List Fact) → List (List Fact) → Type 0
 HaveCome k rs old new = (D : List Fact) (h : ℕ) → h ≤ length rs → StandOn D rs h old → StandOn D rs k new

@@ -36,19 +36,20 @@ pub record IsReplayOf (g : Ground) (H : List PlainEntry) (r : Replay) : Type 0 w
   pub retries : g.settings.retries ≤ 4
   pub left : Leave g H (updates_of g.rules g.budget r.updates.items)
   pub numbers : AreFrom 1 r.updates.items
-  -- the levels are the base and what lies above each of so many of the updates
+  -- the levels are the base, and the base with the trails of the first 1, 2, .., `height` updates
   pub height : ℕ
   pub within : height ≤ length r.updates.items
   pub levels : StandOn g.base r.updates.items height r.levels
   pub few : length r.handed.now ≤ 1000
 
--- It is the replay of some history.
+-- The replay is one of some history.
 pub record IsReplay (r : Replay) : Type 0 where
   pub over : Ground
   pub history : List PlainEntry
   pub replays : IsReplayOf over history r
 
--- It is of the same session by the same terms, and its audited updates are those of updates 1, 2, .. between two steps. Of which history it is is left open.
+-- The replay is of the same session by the same terms, and its audited updates are the ones of updates 1, 2, .. between two
+-- steps. Its history is left open.
 pub record IsLeftOf (old new : Replay) : Type 0 where
   pub mappings : new.mappings ≡ old.mappings
   pub budget : new.budget ≡ old.budget
@@ -56,7 +57,7 @@ pub record IsLeftOf (old new : Replay) : Type 0 where
   pub handed : new.handed ≡ old.handed
   pub numbers : AreFrom 1 new.updates.items
 
--- What a replay of the session is over, by these terms.
+-- The ground of a replay of the session by these terms.
 abbrev pub ground_of : SessionData → ℕ → Settings → Ground
 ground_of s budget c = record { rules = rules_of s.mappings; budget = budget; settings = c; base = s.base; requests = requests_in s; later = [] }
 
@@ -72,20 +73,20 @@ event_in g (events.Delivers u) = Delivers u
 event_in g (events.Answers u c) = Answers u (choice_of c)
 event_in g (events.Withdraws u) = Withdraws u
 
--- The entries grow by that of the event, which is this.
+-- The entries grow by `entry`, which is the one of the event.
 abbrev pub HasGrown : (g : Ground) → List PlainEntry → Event (machine g) → Entry → Replay → Type 0
 HasGrown g H e entry new = (grown g H e ≡ Some (H ++ entry_of entry ∷ [])) × IsReplayOf g (H ++ entry_of entry ∷ []) new
 
--- The event is not allowed, and nothing was done; or the entries grow by that of the event, which is this.
+-- The event is not allowed, and nothing changes; or the entries grow by its entry.
 abbrev pub Makes : (g : Ground) → List PlainEntry → Event (machine g) → Option Entry → Replay → Type 0
 Makes g H e None new = (effect_after g H e ≡ None) × IsReplayOf g H new
 Makes g H e (Some entry) new = HasGrown g H e entry new
 
--- So it is whatever history the replay is of.
+-- This holds whatever history the replay is of.
 abbrev pub HasMade : EventOfProgram → Replay → Replay → Option Entry → Type 0
 HasMade e old new made = (g : Ground) (H : List PlainEntry) → IsReplayOf g H old → Makes g H (event_in g e) made new
 
--- The event at the update at the place was allowed, and this is its entry.
+-- The event of the update at place k was allowed, and this is its entry.
 abbrev pub HasMadeAt : (ℕ → EventOfProgram) → ℕ → Replay → Replay → Entry → Type 0
 HasMadeAt e k old new entry = (g : Ground) (H : List PlainEntry) → IsReplayOf g H old → HasGrown g H (event_in g (e (suc k))) entry new
 
@@ -93,20 +94,20 @@ HasMadeAt e k old new entry = (g : Ground) (H : List PlainEntry) → IsReplayOf 
 abbrev pub IsQuietReplay : Replay → Bool → Type 0
 IsQuietReplay r b = (g : Ground) (H : List PlainEntry) → IsReplayOf g H r → b ≡ is_quiet (machine g) g.settings (updates_after g H)
 
--- So many updates are admitted.
+-- The number of admitted updates is n.
 abbrev pub HasCount : Replay → ℕ → Type 0
 HasCount r n = (g : Ground) (H : List PlainEntry) → IsReplayOf g H r → n ≡ length (updates_after g H)
 
--- Whether all that were handed in are.
+-- Whether all updates that were handed in are admitted.
 abbrev pub IsWholeReplay : Replay → Bool → Type 0
 IsWholeReplay r b = (g : Ground) (H : List PlainEntry) → IsReplayOf g H r → b ≡ (length (updates_after g H) == length g.requests)
 
--- The place of the update of this number, where there is one.
+-- The place of the update with this number, if there is one.
 abbrev pub place_in : List AuditedUpdate → ℕ → Option ℕ
 place_in rs zero = None
 place_in rs (suc k) = if nat_lt k (length rs) then Some k else None
 
--- This is what the update at the place may do next.
+-- What the update at place k may do next.
 abbrev pub HasStandingAt : Settings → List AuditedUpdate → ℕ → Standing → Type 0
 HasStandingAt s rs k st =
     (ms : List Rule) (B : ℕ) (r : AuditedUpdate) → slice_get rs k ≡ Some r → standing_of st ≡ standing (caused_chase ms B) s (committed (caused_chase ms B) (updates_of ms B rs)) (suc k) (update_of ms B r)

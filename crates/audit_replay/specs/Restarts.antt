@@ -1,4 +1,4 @@
--- Restarts of those that an event aborts.
+-- Restarts of the updates that an event aborts.
 use Rattle.std.specs.Prelude.{◌≡◌, ℕ, suc, if◌then◌else◌, List, [], ◌∷◌, ◌++◌, take, drop}
 use Rattle.core_entries.specs.declared.causes.Cause.{Cause as CauseOfProgram}
 use Rattle.def_machine.specs.Cascade.{anew, has_number, restarted}
@@ -9,12 +9,12 @@ use Rattle.audit_updates.specs.Updates.{update_of, updates_of}
 use Rattle.audit_updates.specs.declared.updates.AuditedUpdate.{AuditedUpdate}
 use Rattle.audit_replay.specs.Causes.{readers_in}
 
--- One more attempt at each of the updates has a number.
+-- The next attempt of each update has a number of 32 bits.
 abbrev pub AllHaveOneMore : List AuditedUpdate → Type 0
 AllHaveOneMore [] = Unit {0}
 AllHaveOneMore (r ∷ rs) = HasOneMore r × AllHaveOneMore rs
 
--- The update begins its next attempt where a cause is for it, and else stays as it is.
+-- The update begins its next attempt if a cause is for it, and otherwise stays as it is.
 abbrev pub HasRestartedIf : List CauseOfProgram → AuditedUpdate → AuditedUpdate → Type 0
 HasRestartedIf causes r r' =
     (ms : List Rule) (B : ℕ)

@@ -33,27 +33,27 @@ pub record IsReadySomewhere (r : AuditedUpdate) : Type 0 where
   pub number : ℕ
   pub ready : is_ready (standing (caused_chase rules budget) settings committed number (update_of rules budget r)) ≡ true
 
--- It is, where so many updates are committed and it has this number.
+-- The audited update, with number n, is ready while c updates are committed.
 abbrev pub IsReadyOf : Settings → ℕ → ℕ → AuditedUpdate → Type 0
 IsReadyOf s c n r = (ms : List Rule) (B : ℕ) → is_ready (standing (caused_chase ms B) s c n (update_of ms B r)) ≡ true
 
--- It is neither withdrawn nor committed, where so many are and it has this number.
+-- The audited update, with number n, is neither withdrawn nor committed while c updates are committed.
 abbrev pub IsLiveOf : ℕ → ℕ → AuditedUpdate → Type 0
 IsLiveOf c n r = (ms : List Rule) (B : ℕ) → is_live (caused_chase ms B) c n (update_of ms B r) ≡ true
 
--- The plan is that of a step of the audited update, over something.
+-- The plan is the one of a step of the audited update, over some set of tuples.
 pub record IsPlanSomewhere (plan : Plan) (r : AuditedUpdate) : Type 0 where
   pub rules : List Rule
   pub budget : ℕ
   pub below : List Fact
   pub planned : IsPlanOf rules budget below r plan
 
--- The audited update at the place, if there is one, meets this.
+-- The audited update at place k, if there is one, has the property P.
 abbrev pub AtPlace : ℕ → List AuditedUpdate → (AuditedUpdate → Type 0) → Type 0
 AtPlace k rs P = (r : AuditedUpdate) → slice_get rs k ≡ Some r → P r
 
--- These are the causes of the step of the plan, where D lies below the audited update, which is ready, and these audited updates are above it: all
--- their reads were valid before, and an attempt that is refused by the step has written nothing.
+-- The causes for which the step of the plan restarts audited updates. The stepping update is ready; D lies below it and rs above
+-- it. All reads of rs were valid before, and an attempt that is refused by the step has written nothing.
 abbrev pub AreOfStep : List Rule → Deps → ℕ → AuditedUpdate → Plan → List Fact → List AuditedUpdate → List CauseOfProgram → Type 0
 AreOfStep ms deps c r plan D rs causes =
     (B k n : ℕ) (s : Settings) → IsPlanOf ms B D r plan → is_ready (standing (caused_chase ms B) s k n (update_of ms B r)) ≡ true
@@ -62,19 +62,19 @@ AreOfStep ms deps c r plan D rs causes =
     → AreValid (caused_chase ms B) (suc r.program.attempt.number) (apply D (trail (caused_chase ms B) (update_of ms B r))) (updates_of ms B rs)
     → causes_meant ms B causes ≡ causes_of_step (caused_chase ms B) deps c r.program.attempt.number D (update_of ms B r) (stepped (caused_chase ms B) D (update_of ms B r)) (updates_of ms B rs)
 
--- The update at the place has made the step of the plan, and those above it have restarted that the causes are for.
+-- The update at place k has made the step of the plan, and the updates above it that the causes are for have restarted.
 abbrev pub IsStepMade : ℕ → Plan → List CauseOfProgram → List AuditedUpdate → List AuditedUpdate → Type 0
 IsStepMade k plan causes rs rs' =
     (ms : List Rule) (B : ℕ) (D : List Fact) (r : AuditedUpdate) → slice_get rs k ≡ Some r → IsPlanOf ms B D r plan
     → updates_of ms B rs' ≡ take k (updates_of ms B rs) ++ stepped (caused_chase ms B) D (update_of ms B r) ∷ restarted (caused_chase ms B) (readers_in causes) (suc (suc k)) (drop (suc k) (updates_of ms B rs))
 
--- The update at the place is withdrawn, and those above it have restarted that the causes are for.
+-- The update at place k is withdrawn, and the updates above it that the causes are for have restarted.
 abbrev pub IsRemoved : ℕ → List CauseOfProgram → List AuditedUpdate → List AuditedUpdate → Type 0
 IsRemoved k causes rs rs' =
     (ms : List Rule) (B : ℕ) (r : AuditedUpdate) → slice_get rs k ≡ Some r
     → updates_of ms B rs' ≡ take k (updates_of ms B rs) ++ withdrawn_now (caused_chase ms B) (update_of ms B r) ∷ restarted (caused_chase ms B) (readers_in causes) (suc (suc k)) (drop (suc k) (updates_of ms B rs))
 
--- The entry is that of a step of the update at the place, by this attempt, with these writes and causes.
+-- The entry is the one of a step of the update at place k, with this attempt, these writes and these causes.
 abbrev pub TellsStep : Settings → ℕ → ℕ → Listed Write → Listed CauseOfProgram → List AuditedUpdate → Entry → Type 0
 TellsStep s k attempt writes causes rs e =
     (ms : List Rule) (B : ℕ) (r : AuditedUpdate) → slice_get rs k ≡ Some r
@@ -87,7 +87,7 @@ TellsStep s k attempt writes causes rs e =
       committed = committed (caused_chase ms B) (updates_of ms B rs);
     })
 
--- The entry is that of a withdrawal of the update at the place, with these causes.
+-- The entry is the one of a withdrawal of the update at place k, with these causes.
 abbrev pub TellsWithdrawal : ℕ → Listed CauseOfProgram → List AuditedUpdate → Entry → Type 0
 TellsWithdrawal k causes rs e =
     (ms : List Rule) (B : ℕ) → entry_of e ≡ WasWithdrawn (record { update = suc k; causes = map cause_of causes.items; committed = committed (caused_chase ms B) (updates_of ms B rs) })
@@ -97,20 +97,20 @@ abbrev pub IsDeliverableOf : Settings → ℕ → List AuditedUpdate → Type 0
 IsDeliverableOf s k rs =
     (ms : List Rule) (B : ℕ) (r : AuditedUpdate) → slice_get rs k ≡ Some r → is_deliverable (caused_chase ms B) s (committed (caused_chase ms B) (updates_of ms B rs)) (suc k) (update_of ms B r) ≡ true
 
--- It is paused, and the choice answers its question.
+-- The update at place k is paused, and the choice answers its question.
 abbrev pub TakesOf : Settings → Choice → ℕ → List AuditedUpdate → Type 0
 TakesOf s a k rs =
     (ms : List Rule) (B : ℕ) (r : AuditedUpdate) → slice_get rs k ≡ Some r
     → (is_paused (standing (caused_chase ms B) s (committed (caused_chase ms B) (updates_of ms B rs)) (suc k) (update_of ms B r)) && fits_question (caused_chase ms B) ((caused_chase ms B).question r.program.attempt) a) ≡ true
 
--- The first recorded answer is delivered to the update at the place, and the entry tells it.
+-- The first recorded answer is delivered to the update at place k, and e is the entry.
 abbrev pub IsDelivered : Settings → ℕ → List AuditedUpdate → List AuditedUpdate → Entry → Type 0
 IsDelivered s k rs rs' e =
     (ms : List Rule) (B : ℕ) (r : AuditedUpdate) → slice_get rs k ≡ Some r
     → (updates_of ms B rs' ≡ take k (updates_of ms B rs) ++ delivered (caused_chase ms B) (update_of ms B r) ∷ drop (suc k) (updates_of ms B rs))
     × (entry_of e ≡ WasDelivered (record { update = suc k; standing = standing (caused_chase ms B) s (committed (caused_chase ms B) (updates_of ms B rs')) (suc k) (delivered (caused_chase ms B) (update_of ms B r)) }))
 
--- The update at the place is answered so, and the entry tells it.
+-- The update at place k is answered with the choice a, and e is the entry.
 abbrev pub IsAnswered : Settings → ℕ → Choice → List AuditedUpdate → List AuditedUpdate → Entry → Type 0
 IsAnswered s k a rs rs' e =
     (ms : List Rule) (B : ℕ) (r : AuditedUpdate) → slice_get rs k ≡ Some r

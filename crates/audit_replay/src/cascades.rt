@@ -17,8 +17,9 @@ use base_types::{MappingList, Memory};
 use core_entries::{Cause, CauseList};
 use std::alloc::Global;
 
-/// Why each of the updates depends that does on what is lost, or on what is lost by this: those that the first causes are for go,
-/// and so does each that depends. The uppermost level lies below the first update, without what is lost; it does so at the end.
+/// The dependence of each update that depends on what is lost. The updates that the first causes are for go, and so does each
+/// update that depends; what these lose is lost too. The uppermost level lies below the first update, without what is lost,
+/// before the call and after it.
 pub(crate) fn dependences<'r>(
     alloc: Global,
     levels: &mut Levels,
@@ -39,7 +40,7 @@ pub(crate) fn dependences<'r>(
     Ok(causes)
 }
 
-// The same, where the trails of the updates that stay are put above the others.
+// Does what `dependences` does, but leaves the trails of the updates that stay on top of the levels.
 fn dependences_above<'r>(
     alloc: Global,
     levels: &mut Levels,
@@ -65,14 +66,14 @@ fn dependences_above<'r>(
     Ok(causes)
 }
 
-// Whether one of both holds.
+// Whether one of the two holds.
 fn either(one: bool, other: bool) -> bool
     ensures either { result ≡ (one || other) }
 {
     one || other
 }
 
-// Why the update joins those that go, if it does and none of the first causes is for it.
+// Why the update joins the updates that go, if it does and none of the first causes is for it.
 fn join_of(
     alloc: Global,
     levels: &Levels,

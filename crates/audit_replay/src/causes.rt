@@ -1,4 +1,4 @@
-//! Why an event restarts others.
+//! Why an event restarts other updates.
 ghost use Rattle.std.specs.Prelude.{◌≡◌, ◌++◌, map, IfOk, OnOk};
 ghost use Rattle.base_types.specs.Contents.{rules_in};
 ghost use Rattle.base_types.specs.Meanings.{change_of};
@@ -17,8 +17,8 @@ use base_types::{Memory, Write};
 use core_entries::CauseList;
 use std::alloc::Global;
 
-/// Why updates are restarted where the one below them, of this number, loses this trail: each depends on one that goes. The
-/// uppermost level lies below that update; it does so at the end.
+/// The causes of the restarts if the update `number`, below the updates `upper`, loses its trail: each depends on an update that
+/// goes. The uppermost level lies below update `number`, before the call and after it.
 pub(crate) fn causes_of_loss(
     alloc: Global,
     levels: &mut Levels,
@@ -40,8 +40,9 @@ pub(crate) fn causes_of_loss(
     Ok(causes)
 }
 
-/// Why they are where that one made these writes just now, which makes this its trail: the conflicts, and then the dependences on
-/// those in conflict. The uppermost level lies below that update; it does so at the end.
+/// The causes of the restarts after the update `number`, below the updates `upper`, has just made `writes`, the last of its
+/// trail: the conflicts, and then the dependences on the updates in conflict. The uppermost level lies below update `number`,
+/// before the call and after it.
 pub(crate) fn causes_of_writes(
     alloc: Global,
     levels: &mut Levels,
@@ -61,7 +62,7 @@ pub(crate) fn causes_of_writes(
         return Ok(CauseList::new(alloc));
     }
     let relations = relations_of(alloc, writes)?;
-    // There is one level at least.
+    // There is at least one level.
     let _height = levels.height();
     levels.rise(alloc, trail)?;
     let mut causes = conflicts(alloc, levels, upper, scene, number, relations.as_slice())?;
@@ -71,7 +72,7 @@ pub(crate) fn causes_of_writes(
     Ok(causes)
 }
 
-// Why each of the updates depends that does on those that these causes are for.
+// The dependence of each update that depends on the updates that these causes are for.
 fn dependences_on(
     alloc: Global,
     levels: &mut Levels,
@@ -93,7 +94,7 @@ fn dependences_on(
     Ok(causes)
 }
 
-// Puts the causes behind the others.
+// Appends the causes to the others.
 fn put_all(causes: &mut CauseList, more: CauseList) -> Result<(), Memory>
     ensures all { OnOk result (causes.new.items ≡ causes.old.items ++ more.items) }
 {

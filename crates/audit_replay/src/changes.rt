@@ -15,8 +15,7 @@ use chase_query::{Logged, LoggedRead, Passage, Reply, finds_none};
 use set_facts::IndexedFacts;
 use std::alloc::Global;
 
-/// A read that has another value now: its number in the log, from 1, the read with the answer that it had, and its value
-/// now.
+/// A read that has another value now: its number in the log, from 1, the read with its logged reply, and its value now.
 #[derive(Drop)]
 pub(crate) struct Change {
     pub(crate) number: u64,
@@ -24,7 +23,7 @@ pub(crate) struct Change {
     pub(crate) now: Reply,
 }
 
-/// What the reads of an update are asked by: the mappings, the facts below it, its own writes, and its direction.
+/// What determines the values of an update's reads: the mappings, the facts below it, its own writes, and its direction.
 #[derive(Drop)]
 pub(crate) struct Reader<'r> {
     pub(crate) mappings: &'r MappingList,
@@ -33,8 +32,7 @@ pub(crate) struct Reader<'r> {
     pub(crate) direction: Direction,
 }
 
-/// The first read of the update's log that mentions one of the relations and has another value, where the facts lie below the
-/// update.
+/// The first read of the update's log that mentions one of the relations and has another value over the facts below the update.
 pub(crate) fn changed_read(
     alloc: Global,
     audited: &AuditedUpdate,
@@ -54,7 +52,7 @@ pub(crate) fn changed_read(
     first_changed(alloc, &reader, relations, audited.log.as_slice())
 }
 
-// The same of a log.
+// The first read of the log that mentions one of the relations and has another value.
 fn first_changed(
     alloc: Global,
     reader: &Reader<'_>,
@@ -78,7 +76,7 @@ fn first_changed(
     Ok(None)
 }
 
-// The same of the reads of an entry, where so many reads come before it.
+// The first such read of an entry of the log, after `before` reads of other entries.
 fn changed_by(
     alloc: Global,
     reader: &Reader<'_>,
@@ -96,7 +94,7 @@ fn changed_by(
     }
 }
 
-// The same of the reads of a passage.
+// The first such read of a passage, after `before` other reads.
 fn changed_in_passage(
     alloc: Global,
     reader: &Reader<'_>,
@@ -120,8 +118,8 @@ fn changed_in_passage(
     Ok(None)
 }
 
-// The read behind so many, that the mapping has no violation by an attempt that had made `made` writes, if it mentions one of
-// the relations and has another value.
+// The read, after `before` others, that the mapping had no violation when the attempt had made `made` writes, if it mentions one
+// of the relations and has another value.
 fn changed_mapping(
     alloc: Global,
     reader: &Reader<'_>,
@@ -139,7 +137,7 @@ fn changed_mapping(
     Ok(change)
 }
 
-// The read behind so many, if it mentions one of the relations and has another value.
+// The read, after `before` others, if it mentions one of the relations and has another value.
 fn changed_at(
     alloc: Global,
     reader: &Reader<'_>,
@@ -177,7 +175,7 @@ fn value_now(alloc: Global, reader: &Reader<'_>, read: &LoggedRead) -> Result<Re
 }
 
 #[tactic(auto, using(crate::proofs::Seen::first_taken))]
-// The first of the writes, at most so many.
+// The first writes, at most `many` of them.
 fn first_of(own: &[Write], many: u64) -> &[Write]
     ensures first { map change_of result.now ≡ take many (map change_of own.now) }
 {

@@ -18,7 +18,8 @@ use chase_query::Logged;
 use core_entries::{Cause, CauseList};
 use std::alloc::Global;
 
-/// What an event finds: the mappings, how dependences are tested, and how many updates were committed when it began.
+/// The conditions of an event: the mappings, how dependences are tested, and the number of updates that were committed when it
+/// began.
 #[derive(Clone, Copy)]
 pub(crate) struct Scene<'a> {
     pub(crate) mappings: &'a MappingList,
@@ -26,8 +27,8 @@ pub(crate) struct Scene<'a> {
     pub(crate) committed: u32,
 }
 
-/// The conflicts of the updates with what the writer wrote just now, of these relations. The uppermost level lies below the first
-/// of them, with the writes; it does so at the end.
+/// The conflicts of the updates with what the writer has just written, in these relations. The uppermost level lies below the
+/// first of the updates, with the writes, before the call and after it.
 pub(crate) fn conflicts(
     alloc: Global,
     levels: &mut Levels,
@@ -48,7 +49,7 @@ pub(crate) fn conflicts(
     Ok(causes)
 }
 
-// The conflicts of the updates, of each of which the trail is put above the others.
+// Does what `conflicts` does, but leaves the trail of each update on top of the levels.
 fn conflicts_above(
     alloc: Global,
     levels: &mut Levels,
@@ -71,7 +72,7 @@ fn conflicts_above(
     Ok(causes)
 }
 
-/// Puts the cause behind the others, if there is one.
+/// Appends the cause to the others, if there is one.
 pub(crate) fn put(causes: &mut CauseList, found: Option<Cause>) -> Result<(), Memory>
     ensures put { OnOk result (causes.new.items ≡ causes.old.items ++ option_to_list found) }
 {
@@ -82,7 +83,7 @@ pub(crate) fn put(causes: &mut CauseList, found: Option<Cause>) -> Result<(), Me
     Ok(())
 }
 
-// The conflict of the update with what the writer wrote, if there is one, where the uppermost level lies below it.
+// The conflict of the update with what the writer wrote, if there is one. The uppermost level lies below the update.
 fn conflict_of(
     alloc: Global,
     levels: &Levels,
@@ -124,7 +125,7 @@ fn conflict_by(reader: u32, writer: u32, change: Option<Change>) -> Option<Cause
     }
 }
 
-// How many of the updates stand up to the last one that may be in conflict.
+// The number of updates up to the last one that may be in conflict.
 fn reach(upper: &[AuditedUpdate], scene: Scene<'_>, relations: &[u16]) -> usize
     ensures within { result ≤ length upper.now }
     ensures none { AreUnmet (rules_in scene.entry.mappings.now) scene.entry.committed relations.now

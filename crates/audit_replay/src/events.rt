@@ -1,9 +1,9 @@
-//! What may happen in a history.
+//! The events of a history.
 
 use base_types::Choice;
 
-/// What may happen: the next update handed in is admitted, the update of this number makes a step, its first recorded answer
-/// is delivered, a person answers its question, or it is withdrawn.
+/// An event: the next update handed in is admitted, the update with this number makes a step, its first recorded answer is
+/// delivered, a person answers its question, or it is withdrawn.
 #[derive(Debug, Drop)]
 pub enum Event {
     Admits,

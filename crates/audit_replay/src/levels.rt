@@ -1,4 +1,4 @@
-//! A set of tuples that goes up and down over writes.
+//! A set of tuples with levels: it goes up and down over writes.
 ghost use Rattle.std.specs.Prelude.{◌≡◌, ◌+◌, ◌-◌, ◌≤◌, ◌∷◌, [], suc, length, drop, map, reverse, IfOk, OnOk, OnErr};
 ghost use Rattle.base_types.specs.Meanings.{change_of};
 ghost use Rattle.def_chase.specs.Repository.{apply, change};
@@ -9,12 +9,12 @@ use set_facts::IndexedFacts;
 use std::alloc::Global;
 use std::marker::Model;
 
-/// A set of tuples with what lay under it: each level is the one below it with writes made. Contracts see the levels from
-/// the uppermost one down to the lowest; there is one at least.
+/// A set of tuples with its lower levels: each level is the one below it with writes made. Contracts see the levels from the
+/// uppermost one down to the lowest; there is at least one.
 #[derive(Debug, Drop)]
 pub struct Levels {
     facts: IndexedFacts,
-    // For each level but the lowest, the writes that lead from it to the one below, the last of them first.
+    // For each level but the lowest, the writes that lead from it to the one below, to be made from the last to the first.
     back: Vec<WriteList>,
 }
 
@@ -30,7 +30,7 @@ impl Model for Levels {
 }
 
 impl Levels {
-    /// The one level of the set.
+    /// A set with one level.
     pub fn new(alloc: Global, facts: IndexedFacts) -> Levels
         ensures one { result ≡ facts ∷ [] }
     {
@@ -47,15 +47,15 @@ impl Levels {
         &self.facts
     }
 
-    /// How many levels there are above the lowest.
+    /// The number of levels above the lowest.
     pub fn height(&self) -> usize
         ensures height { length self.now ≡ suc result }
     {
         self.back.len()
     }
 
-    /// Puts one more level above the others: the uppermost one with these writes made. If it is refused, the levels are to be
-    /// dropped: they are as many as before, and what lies in them is left open.
+    /// Puts one more level above the others: the uppermost one with these writes made. After an error the levels are of no use
+    /// any more: their number is as before, but not their tuples.
     pub fn rise(&mut self, alloc: Global, writes: &[Write]) -> Result<(), Memory>
         ensures raised { OnOk result (self.new ≡ raised self.old (map change_of writes.now)) }
         ensures err { OnErr result (AreAsMany self.old self.new) }
@@ -65,8 +65,8 @@ impl Levels {
         Ok(())
     }
 
-    /// Takes the uppermost level away, where it is not the lowest too. If it is refused, the levels are to be dropped: they are
-    /// one fewer, and what lies in them is left open.
+    /// Takes the uppermost level away, which must not be the lowest. After an error the levels are of no use any more: there is
+    /// one fewer, but their tuples are unknown.
     pub fn sink(&mut self) -> Result<(), Memory>
         requires above { 2 ≤ length self.old }
         ensures sunk { OnOk result (self.new ≡ drop 1 self.old) }
@@ -79,8 +79,8 @@ impl Levels {
         Ok(())
     }
 
-    /// Takes levels away until so many are left above the lowest. If it is refused, the levels are to be dropped: they are still
-    /// at least so many, and what lies in them is left open.
+    /// Takes levels away until `height` are left above the lowest. After an error the levels are of no use any more: at least
+    /// `height` are left above the lowest, but their tuples are unknown.
     pub fn sink_to(&mut self, height: usize) -> Result<(), Memory>
         requires above { height + 1 ≤ length self.old }
         ensures sunk { OnOk result
@@ -94,7 +94,7 @@ impl Levels {
     }
 }
 
-// Makes the writes in turn, and gives those that take them back, the last of them first to be made.
+// Makes the writes in order, and gives the writes that take them back, which are to be made from the last to the first.
 fn make_all(alloc: Global, facts: &mut IndexedFacts, writes: &[Write]) -> Result<WriteList, Memory>
     ensures made { OnOk result (facts.new ≡ apply facts.old (map change_of writes.now)) }
     ensures back { IfOk result (λ back.
@@ -107,7 +107,7 @@ fn make_all(alloc: Global, facts: &mut IndexedFacts, writes: &[Write]) -> Result
     Ok(back)
 }
 
-// Makes the writes, the last of them first.
+// Makes the writes, from the last to the first.
 fn take_all_back(facts: &mut IndexedFacts, back: WriteList) -> Result<(), Memory>
     ensures made { OnOk result (facts.new ≡ apply facts.old (reverse (map change_of back.items))) }
 {
@@ -118,7 +118,7 @@ fn take_all_back(facts: &mut IndexedFacts, back: WriteList) -> Result<(), Memory
     Ok(())
 }
 
-// Makes the write, and puts the one that takes it back behind the others, if it changes anything.
+// Makes the write, and if it changes anything, appends the write that takes it back to the others.
 fn make(
     alloc: Global,
     facts: &mut IndexedFacts,
@@ -128,7 +128,7 @@ fn make(
     ensures made { OnOk result (facts.new ≡ change facts.old (change_of write.now)) }
     ensures back { OnOk result (LeadsBack facts.old back.old.items facts.new back.new.items) }
 {
-    // The set tells that it is in order.
+    // The contract of this call says that the set is in order.
     facts.is_in_order();
     match write {
         Write::Insert(tuple) => {

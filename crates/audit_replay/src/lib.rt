@@ -1,8 +1,8 @@
-//! A history replayed event by event, by plain sets.
+//! A history replayed event by event, over plain sets.
 //!
-//! A `Replay` has the updates of a history with their present attempts, and tells of each event whether it is allowed and
-//! what its entry is. What it means is said in `specs/Replays.antt`, by the definitions of legal histories; it shares no code
-//! with a core.
+//! A `Replay` has the updates of a history with their present attempts. For each event it decides whether the event is allowed,
+//! and computes its entry. `specs/Replays.antt` says what a replay means, by the definitions of legal histories; it shares no
+//! code with a core.
 #![tactic(auto)]
 
 mod answering;

@@ -1,4 +1,4 @@
-//! What is lost below an update: the trails of the members, which are the updates that go.
+//! What is lost below an update: the trails of the members, that is, of the updates that go.
 ghost use Rattle.std.specs.Prelude.{◌≡◌, ◌||◌, ◌+◌, ◌-◌, ◌<◌, ◌^◌, [], ◌∷◌, length, map, true, IfOk, OnOk, is_some as is_some_def};
 ghost use Rattle.std.specs.List.{list_any};
 ghost use Rattle.std.specs.Option.{option_map};
@@ -23,7 +23,7 @@ use base_types::{MappingList, Memory, TryCopy, Write};
 use chase_query::{Logged, LoggedRead, Passage, finds_none, mentions};
 use std::alloc::Global;
 
-/// An update whose trail goes, with that trail.
+/// An update that loses its trail, with that trail.
 #[derive(Drop)]
 pub(crate) struct Member<'r> {
     pub(crate) number: u32,
@@ -45,7 +45,7 @@ pub(crate) struct Numbered {
 }
 
 impl<'r> Losses<'r> {
-    /// Nothing is lost.
+    /// Losses without members.
     pub(crate) fn none(alloc: Global) -> Losses<'r>
         ensures none { result.members.items ≡ [] }
         ensures told { AreTold result }
@@ -56,7 +56,7 @@ impl<'r> Losses<'r> {
         }
     }
 
-    /// Loses the trail of the update of this number.
+    /// Adds the loss of the trail of the update `number`.
     pub(crate) fn lose(&mut self, number: u32, trail: &'r [Write]) -> Result<(), Memory>
         ensures lost { OnOk result (Loses number (map change_of trail.now) self.old self.new) }
     {
@@ -65,7 +65,7 @@ impl<'r> Losses<'r> {
         Ok(())
     }
 
-    /// Passes the update, below which the uppermost level lies: it goes, or its trail is put above the others.
+    /// Passes the update, below which the uppermost level lies: it becomes a member, or its trail is put on top of the levels.
     pub(crate) fn pass(
         &mut self,
         alloc: Global,
@@ -86,8 +86,9 @@ impl<'r> Losses<'r> {
         Ok(())
     }
 
-    /// The first read of the update that depends on what is lost: by values, one that has another value without it; by relations,
-    /// one that mentions a relation of it. The uppermost level lies below the update, without what is lost.
+    /// The first read of the update that depends on what is lost. Such a read mentions a relation of the lost writes; if
+    /// dependence is tested by values, it also has another value without them. The uppermost level lies below the update, without
+    /// what is lost.
     pub(crate) fn first_dependent(
         &self,
         alloc: Global,
@@ -105,7 +106,7 @@ impl<'r> Losses<'r> {
         }
     }
 
-    // The first read of the update that has another value without what is lost.
+    // The first read of the update that mentions a relation of what is lost and has another value without it.
     fn first_changed(
         &self,
         alloc: Global,
@@ -149,7 +150,7 @@ impl<'r> Losses<'r> {
         Ok(None)
     }
 
-    // The same of the reads of an entry, where so many reads come before it.
+    // The first such read of an entry of the log, after `before` reads of other entries.
     fn met_by(
         &self,
         alloc: Global,
@@ -168,7 +169,7 @@ impl<'r> Losses<'r> {
         }
     }
 
-    // The same of the reads of a passage.
+    // The first such read of a passage, after `before` other reads.
     fn met_in_passage(
         &self,
         alloc: Global,
@@ -192,8 +193,8 @@ impl<'r> Losses<'r> {
         Ok(None)
     }
 
-    // The read behind so many, that the mapping has no violation by an attempt that had made `made` writes, if it mentions
-    // such a relation.
+    // The read, after `before` others, that the mapping had no violation when the attempt had made `made` writes, if it mentions
+    // a relation of what is lost.
     fn met_mapping(
         &self,
         alloc: Global,
@@ -212,7 +213,7 @@ impl<'r> Losses<'r> {
         Ok(found)
     }
 
-    // The read behind so many, if it mentions such a relation.
+    // The read, after `before` others, if it mentions a relation of what is lost.
     fn met_at(
         &self,
         alloc: Global,
@@ -234,7 +235,7 @@ impl<'r> Losses<'r> {
         }))
     }
 
-    /// The least member that wrote a relation which the read mentions; 0, which is no update, where none did.
+    /// The least member that wrote in a relation that the read mentions; 0, which is no update, if there is none.
     pub(crate) fn writer_for(&self, read: &LoggedRead, mappings: &MappingList) -> u32
         ensures writer { result ≡
             least_writer (rules_in mappings.now) (read_of read.now) self.now.members.items }
@@ -248,7 +249,7 @@ impl<'r> Losses<'r> {
     }
 }
 
-// Whether the read mentions a relation of which one of the writes is.
+// Whether the read mentions the relation of one of the writes.
 fn reaches(trail: &[Write], read: &LoggedRead, mappings: &MappingList) -> bool
     ensures reached { result ≡
         any_of (mentions_def (rules_in mappings.now) (read_of read.now).query)

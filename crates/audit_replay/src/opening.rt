@@ -1,4 +1,4 @@
-//! The beginning of a replay, and what admissions, deliveries and answers do.
+//! The beginning of a replay, and its admissions, deliveries and answers.
 ghost use Rattle.std.specs.Prelude.{◌≡◌, ◌≤◌, ◌<◌, length, slice_get, suc, IfOk, OnErr};
 ghost use Rattle.std.specs.Option.{option_copied};
 ghost use Rattle.base_types.specs.Meanings.{choice_of};
@@ -21,7 +21,7 @@ use run_serial::{base_of, mappings_of};
 use std::alloc::Global;
 
 impl<'s> Replay<'s> {
-    /// The history of the session in which nothing has happened yet.
+    /// A replay of the session in which nothing has happened yet.
     pub fn begun(
         alloc: Global,
         session: &'s Session,
@@ -49,7 +49,7 @@ impl<'s> Replay<'s> {
         })
     }
 
-    // Admits the next update, where one more was handed in.
+    // Admits the next update, if one more was handed in.
     pub(crate) fn admit(&mut self, alloc: Global) -> Result<Option<Entry>, Memory>
         requires replay { IsReplay self.old }
         ensures made { IfOk result (HasMade events.Admits self.old self.new) }
@@ -65,7 +65,7 @@ impl<'s> Replay<'s> {
         Ok(Some(Entry::Admitted { update }))
     }
 
-    // Delivers the first recorded answer to the update, where it is pending and has one.
+    // Delivers the first recorded answer to the update, if it is pending and has one.
     pub(crate) fn deliver(&mut self, update: u32) -> Result<Option<Entry>, Memory>
         requires replay { IsReplay self.old }
         ensures made { IfOk result (HasMade (events.Delivers update) self.old self.new) }
@@ -96,7 +96,7 @@ impl<'s> Replay<'s> {
         Ok(entry)
     }
 
-    // Answers the question of the update, where it is paused and the choice fits.
+    // Answers the question of the update, if it is paused and the choice fits.
     pub(crate) fn answer(
         &mut self,
         alloc: Global,

@@ -1,4 +1,4 @@
-//! Where the levels of a replay stand among its updates, and what the update at a place may do next.
+//! Which updates of a replay its levels reach, and what the update at a place may do next.
 ghost use Rattle.std.specs.Prelude.{◌≡◌, ◌≤◌, ◌<◌, ◌+◌, drop, length, suc, OnOk};
 ghost use Rattle.audit_updates.specs.Updates.{AreFrom};
 ghost use Rattle.audit_updates.specs.Settings.{settings_of};
@@ -11,7 +11,7 @@ use base_types::Memory;
 use core_entries::Standing;
 use std::alloc::Global;
 
-/// Goes to where the uppermost level lies below the update at the place.
+/// Moves the levels so that the uppermost one lies below the update at the place.
 pub(crate) fn go_to(
     alloc: Global,
     levels: &mut Levels,
@@ -27,7 +27,7 @@ pub(crate) fn go_to(
     Ok(())
 }
 
-// Sinks until no more than so many levels are left above the lowest.
+// Sinks until at most `place` levels are left above the lowest.
 fn sink_below(levels: &mut Levels, place: usize) -> Result<(), Memory>
     ensures stand { OnOk result (StandStill levels.old levels.new) }
     ensures most { OnOk result (length levels.new ≤ place + 1) }
@@ -38,7 +38,7 @@ fn sink_below(levels: &mut Levels, place: usize) -> Result<(), Memory>
     Ok(())
 }
 
-// Rises until so many levels are there above the lowest.
+// Rises until `place` levels are above the lowest.
 fn rise_to(
     alloc: Global,
     levels: &mut Levels,

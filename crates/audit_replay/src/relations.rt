@@ -12,7 +12,7 @@ use base_types::{MappingList, Memory, Write};
 use chase_query::{Logged, Query, mentions};
 use std::alloc::Global;
 
-/// The relations of which the writes are, each once.
+/// The relations of the writes, each once.
 pub(crate) fn relations_of(alloc: Global, writes: &[Write]) -> Result<Vec<u16>, Memory>
     ensures same { IfOk result (λ relations.
         AreRelationsOf (map change_of writes.now) relations.items) }
@@ -22,7 +22,7 @@ pub(crate) fn relations_of(alloc: Global, writes: &[Write]) -> Result<Vec<u16>, 
     Ok(relations)
 }
 
-/// Puts the relations of which the writes are behind the others, each that is none of them.
+/// Appends the relations of the writes to the others, if they are not among them.
 pub(crate) fn put_relations(relations: &mut Vec<u16>, writes: &[Write]) -> Result<(), Memory>
     ensures more { OnOk result
         (HasMore relations.old.items (map change_of writes.now) relations.new.items) }
@@ -33,7 +33,7 @@ pub(crate) fn put_relations(relations: &mut Vec<u16>, writes: &[Write]) -> Resul
     Ok(())
 }
 
-// Puts the relation behind the others, where it is none of them.
+// Appends the relation to the others, if it is not among them.
 fn put_relation(relations: &mut Vec<u16>, relation: u16) -> Result<(), Memory>
     ensures more { OnOk result (HasOneMore relations.old.items relation relations.new.items) }
 {

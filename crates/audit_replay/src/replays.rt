@@ -1,4 +1,4 @@
-//! A replay, and what it tells.
+//! A replay, and its calls.
 ghost use Rattle.std.specs.Prelude.{◌≡◌, IfOk, OnErr};
 ghost use Rattle.audit_replay.specs.Replays.{HasMade, HasCount, IsLeftOf, IsQuietReplay, IsReplay, IsWholeReplay, place_in};
 
@@ -11,8 +11,8 @@ use core_entries::Entry;
 use lang_session::SessionUpdate;
 use std::alloc::Global;
 
-/// A history of a session as far as it was replayed: the mappings, the budget of an attempt, the settings, the updates handed
-/// in, those admitted with their present attempts, and the base with the trails of the lowest of them.
+/// A history of a session as far as it was replayed: the mappings, the budget of an attempt, the settings, the updates handed in,
+/// the admitted updates with their present attempts, and the base with the trails of the lowest of these.
 #[derive(Drop)]
 pub struct Replay<'s> {
     pub mappings: Mappings<'s>,
@@ -24,7 +24,7 @@ pub struct Replay<'s> {
 }
 
 impl<'s> Replay<'s> {
-    /// How many updates are admitted.
+    /// The number of admitted updates.
     pub fn count(&self) -> usize
         ensures count { HasCount self.now result }
     {
@@ -46,8 +46,8 @@ impl<'s> Replay<'s> {
         is_quiet(self.updates.as_slice(), self.settings)
     }
 
-    /// What the event does, and its entry; None exactly where it is not allowed, and then nothing is done. If it is refused, the
-    /// replay is one to be dropped, of the same session, with its updates at their places.
+    /// Makes the event, and gives its entry; None if the event is not allowed, and then nothing changes. After an error the
+    /// replay is of no use any more; it still has the same session, and its updates keep their numbers.
     pub fn make(&mut self, alloc: Global, event: Event) -> Result<Option<Entry>, Memory>
         requires replay { IsReplay self.old }
         ensures made { IfOk result (HasMade event self.old self.new) }
@@ -62,7 +62,7 @@ impl<'s> Replay<'s> {
         }
     }
 
-    // The place of the update of this number, where there is one.
+    // The place of the update with this number, if there is one.
     pub(crate) fn place_of(&self, update: u32) -> Option<usize>
         ensures place { result ≡ place_in self.now.updates.items update }
     {

@@ -1,4 +1,4 @@
-//! Restarts of those that an event aborts.
+//! Restarts of the updates that an event aborts.
 ghost use Rattle.std.specs.Prelude.{◌≤◌, drop, length, OnOk, OnErr};
 ghost use Rattle.audit_updates.specs.Updates.{AreFrom};
 ghost use Rattle.audit_updates.specs.Events.{IsSame, KeepsPlace};
@@ -11,7 +11,7 @@ use base_types::Memory;
 use core_entries::CauseList;
 use std::alloc::Global;
 
-/// Restarts each of the updates from the place on that one of the causes is for.
+/// Restarts each update, from the place on, that one of the causes is for.
 pub(crate) fn restart_named(
     alloc: Global,
     updates: &mut [AuditedUpdate],
@@ -31,7 +31,7 @@ pub(crate) fn restart_named(
     Ok(())
 }
 
-// Restarts the update where one of the causes is for it.
+// Restarts the update if one of the causes is for it.
 fn restart_if_named(
     alloc: Global,
     audited: &mut AuditedUpdate,

@@ -29,7 +29,7 @@ use set_facts::{IndexedFacts, Overlay};
 use std::alloc::Global;
 
 impl<'s> Replay<'s> {
-    // Makes the next step of the update, where it is ready.
+    // Makes the next step of the update, if it is ready.
     pub(crate) fn step(&mut self, alloc: Global, update: u32) -> Result<Option<Entry>, Memory>
         requires replay { IsReplay self.old }
         ensures made { IfOk result (HasMade (events.Steps update) self.old self.new) }
@@ -47,7 +47,7 @@ impl<'s> Replay<'s> {
         Ok(Some(entry))
     }
 
-    // Makes the next step of the update at the place, which is ready, where so many updates are committed.
+    // Makes the next step of the update at the place, which is ready while `before` updates are committed.
     fn step_at(&mut self, alloc: Global, place: usize, before: u32) -> Result<Entry, Memory>
         requires replay { IsReplay self.old }
         requires within { place < length self.old.updates.items }
@@ -78,7 +78,7 @@ impl<'s> Replay<'s> {
     }
 }
 
-/// A step that is to be made: its plan, the attempt that makes it, the writes that it shows, and why others are restarted.
+/// A step before it is made: its plan, the attempt that makes it, the writes that it shows, and the causes of the restarts.
 #[derive(Drop)]
 pub(crate) struct Prepared {
     pub(crate) plan: Plan,
@@ -87,7 +87,7 @@ pub(crate) struct Prepared {
     pub(crate) causes: CauseList,
 }
 
-// The next step of the update at the place, which is ready and below which the uppermost level lies.
+// The next step of the update at the place, which is ready. The uppermost level lies below the update.
 fn prepare(
     alloc: Global,
     levels: &mut Levels,
@@ -128,7 +128,7 @@ fn prepare(
     }
 }
 
-// The writes that the step of the plan shows, and why it restarts others, where the uppermost level lies below the update.
+// The writes that the step of the plan shows, and the causes of the restarts. The uppermost level lies below the update.
 fn told_of_step(
     alloc: Global,
     levels: &mut Levels,
@@ -196,8 +196,8 @@ fn planned(
     planned_over(alloc, chase, facts, &mut with, audited)
 }
 
-// The next step of the update, which is ready, over the facts below it, where its own writes are made in an overlay of them. If
-// it is refused, the overlay is one to be dropped.
+// The next step of the update, which is ready, over the facts below it. Its own writes are made in the overlay `with` of these
+// facts. After an error the overlay is of no use any more.
 fn planned_over<'f>(
     alloc: Global,
     chase: &Chase<'_>,
@@ -233,7 +233,7 @@ fn planned_over<'f>(
     )
 }
 
-// Why the step of the plan restarts others, where the uppermost level lies below the update.
+// The causes for which the step of the plan restarts other updates. The uppermost level lies below the update.
 fn causes_of_step(
     alloc: Global,
     levels: &mut Levels,
@@ -262,7 +262,7 @@ fn causes_of_step(
     Ok(causes)
 }
 
-// Makes the step of the plan at the place, which restarts others for these causes.
+// Makes the step of the plan at the place, which restarts other updates for these causes.
 fn make_step(
     alloc: Global,
     updates: &mut [AuditedUpdate],
@@ -283,7 +283,7 @@ fn make_step(
     Ok(())
 }
 
-// The entry of a step of the update at the place, by this attempt, with these writes and causes.
+// The entry of a step of the update at the place, with this attempt, these writes and these causes.
 fn step_entry(
     updates: &[AuditedUpdate],
     settings: Settings,

@@ -25,7 +25,7 @@ use core_entries::{CauseList, Entry};
 use std::alloc::Global;
 
 impl<'s> Replay<'s> {
-    // Withdraws the update, where it is neither committed nor withdrawn.
+    // Withdraws the update, if it is neither committed nor withdrawn.
     pub(crate) fn withdraw(&mut self, alloc: Global, update: u32) -> Result<Option<Entry>, Memory>
         requires replay { IsReplay self.old }
         ensures made { IfOk result (HasMade (events.Withdraws update) self.old self.new) }
@@ -43,7 +43,7 @@ impl<'s> Replay<'s> {
         Ok(Some(entry))
     }
 
-    // Withdraws the update at the place, which is live, where so many updates are committed.
+    // Withdraws the update at the place, which is live while `before` updates are committed.
     fn withdraw_at(&mut self, alloc: Global, place: usize, before: u32) -> Result<Entry, Memory>
         requires replay { IsReplay self.old }
         requires within { place < length self.old.updates.items }
@@ -63,7 +63,8 @@ impl<'s> Replay<'s> {
     }
 }
 
-// Why the withdrawal of the update at the place, below which the uppermost level lies, restarts others.
+// The causes for which the withdrawal of the update at the place restarts other updates. The uppermost level lies below the
+// update.
 fn prepare(
     alloc: Global,
     levels: &mut Levels,
@@ -112,7 +113,7 @@ fn remove(
     Ok(entry)
 }
 
-// Withdraws the update at the place, which restarts others for these causes.
+// Withdraws the update at the place, which restarts other updates for these causes.
 fn make_withdrawal(
     alloc: Global,
     updates: &mut [AuditedUpdate],

@@ -1,4 +1,4 @@
--- What the parts of a step say.
+-- What the parts of a step mean.
 use Rattle.std.specs.Prelude.{List, map}
 use Rattle.base_types.specs.declared.updates.Write.{Write}
 use Rattle.base_types.specs.Meanings.{change_of}
@@ -7,7 +7,7 @@ use Rattle.core_entries.specs.Meanings.{standing_of, cause_of}
 use Rattle.def_history.specs.PlainEntries.{StepMade}
 use Rattle.audit_trace.specs.declared.entries.Made.{Made}
 
--- The step of these parts, with its writes and its causes.
+-- The step with these parts, writes and causes.
 abbrev pub step_of : Made → List Write → List Cause → StepMade
 step_of made writes causes =
     record {

@@ -1,4 +1,4 @@
--- Traces on literals.
+-- Worked examples of traces.
 use Rattle.std.specs.Prelude.{◌≡◌, ℕ, pos, List, [], ◌∷◌, ◌++◌, codes}
 use Rattle.def_machine.specs.Machine.{Done}
 use Rattle.def_machine.specs.Standings.{Standing, Ready, Paused, Missing, Ended}

@@ -15,7 +15,7 @@ use Rattle.def_language.specs.Printing.{tuple_text, written_choice}
 use Rattle.def_language.specs.Sessions.{RelationSchema}
 use Rattle.base_json.specs.Lines.{items_of}
 
--- How a standing is called.
+-- The name of a standing.
 abbrev pub standing_name : Standing → List ℕ
 standing_name Ready = codes "ready"
 standing_name (Held c) = codes "held"
@@ -64,7 +64,7 @@ write_json relations w = string (write_text relations w)
 abbrev pub writes_json : List RelationSchema → List Change → Json
 writes_json relations ws = array (items_of (map (write_json relations) ws))
 
--- An answer as a session has it behind the label, nulls by their outer names.
+-- An answer as a session has it after the label, nulls by their outer names.
 abbrev pub choice_text : List RelationSchema → Choice → List ℕ
 choice_text relations c = laid_out (choice_words (written_choice relations c))
 

@@ -1,4 +1,4 @@
-//! What the definitions of a trace's text say.
+//! Worked examples of a trace's text.
 ghost use Rattle.audit_trace.specs.TraceRows.{TraceRows};
 
 /// The trace of one update that repairs a violation, and a line of each kind of entry, byte by byte.

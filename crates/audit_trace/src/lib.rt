@@ -1,6 +1,7 @@
-//! The text of a trace: what a history tells, line by line, as JSON.
+//! The text of a trace: the entries of a history, line by line, as JSON.
 //!
-//! Each line is the compact JSON text of an object, the keys in byte order; `specs/Traces.antt` says which. The text is written token by token on one `Line` of `base_json`.
+//! Each line is the compact JSON text of an object, with its keys in byte order; `specs/Traces.antt` defines the objects. The
+//! text is written token by token on one `Line` of `base_json`.
 #![tactic(auto)]
 
 mod causes;

@@ -1,4 +1,4 @@
--- What an event leaves of one audited update, for the machine of any mappings and any budget.
+-- What an event does to one audited update, for the machine of any mappings and any budget.
 use Rattle.std.specs.Prelude.{◌≡◌, ℕ, List, map}
 use Rattle.base_types.specs.Listed.{Listed}
 use Rattle.base_types.specs.Meanings.{choice_of, operation_of}
@@ -14,11 +14,11 @@ use Rattle.audit_updates.specs.Programs.{IsPlanOf}
 use Rattle.audit_updates.specs.Updates.{update_of, StandsAt}
 use Rattle.audit_updates.specs.declared.updates.AuditedUpdate.{AuditedUpdate}
 
--- The audited update is still the update of that number, between two steps.
+-- The audited update keeps its number, and is still between two steps.
 abbrev pub KeepsPlace : AuditedUpdate → AuditedUpdate → Type 0
 KeepsPlace r r' = (n : ℕ) → StandsAt n r → StandsAt n r'
 
--- The audited updates stand for the same update, at the same moment of the same attempt.
+-- The two audited updates stand for the same update, at the same moment of the same attempt.
 abbrev pub IsSame : AuditedUpdate → AuditedUpdate → Type 0
 IsSame r r' = (r'.program ≡ r.program) × ((ms : List Rule) (B : ℕ) → update_of ms B r' ≡ update_of ms B r)
 
@@ -31,7 +31,7 @@ IsAdmitted n u cs r =
 abbrev pub HasStepped : Plan → AuditedUpdate → AuditedUpdate → Type 0
 HasStepped plan r r' = (ms : List Rule) (B : ℕ) (D : List Fact) → IsPlanOf ms B D r plan → update_of ms B r' ≡ stepped (caused_chase ms B) D (update_of ms B r)
 
--- The audited update is still that update where the plan is that of its step.
+-- If the plan is the one of its next step, the audited update keeps its number, and is still between two steps.
 abbrev pub KeepsPlaceBy : Plan → AuditedUpdate → AuditedUpdate → Type 0
 KeepsPlaceBy plan r r' = (ms : List Rule) (B : ℕ) (D : List Fact) (n : ℕ) → IsPlanOf ms B D r plan → StandsAt n r → StandsAt n r'
 

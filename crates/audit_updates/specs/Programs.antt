@@ -21,63 +21,63 @@ use Rattle.def_steps.specs.Chase.{caused_chase, ending}
 use Rattle.audit_updates.specs.Updates.{update_of}
 use Rattle.audit_updates.specs.declared.updates.AuditedUpdate.{AuditedUpdate}
 
--- It is between two steps.
+-- The attempt is between two steps.
 abbrev pub IsBetween : State → Type 0
 IsBetween s = s.reading ≡ None
 
--- This is how the attempt ended, if it did, as people are told.
+-- How the attempt ended, if it did, as people see it.
 abbrev pub HasEnded : State → Option End → Type 0
 HasEnded s o = o ≡ option_map end_in (outcome_in s.attempt.phase)
 
--- This is what the attempt asks people, if it is at a question.
+-- What the attempt asks people, if it is at a question.
 abbrev pub HasAsked : State → Option Inquiry → Type 0
 HasAsked s i = i ≡ option_map inquiry_in (question_in s.attempt.phase)
 
--- How an attempt ended that wishes this, if it did.
+-- How an attempt with this wish ended, if it did.
 abbrev pub end_wished : Wish → Option End
 end_wished (WishesReply q) = None
 end_wished (WishesChoice i) = None
 end_wished (WishesNothing e) = Some e
 end_wished WishesStep = None
 
--- What an attempt asks that wishes this, if it is at a question.
+-- What an attempt with this wish asks, if it is at a question.
 abbrev pub inquiry_wished : Wish → Option Inquiry
 inquiry_wished (WishesReply q) = None
 inquiry_wished (WishesChoice i) = Some i
 inquiry_wished (WishesNothing e) = None
 inquiry_wished WishesStep = None
 
--- It ended out of its budget.
+-- The attempt ended because its budget was used up.
 abbrev pub is_spent_end : Option End → Bool
 is_spent_end None = false
 is_spent_end (Some IsDone) = false
 is_spent_end (Some IsSpent) = true
 is_spent_end (Some (IsRefused u k)) = false
 
--- It ended spent or refused.
+-- The attempt ended spent or refused.
 abbrev pub hides_end : Option End → Bool
 hides_end None = false
 hides_end (Some IsDone) = false
 hides_end (Some IsSpent) = true
 hides_end (Some (IsRefused u k)) = true
 
--- Whether it ended out of its budget.
+-- Whether the attempt ended because its budget was used up.
 abbrev pub HasSpent : State → Bool → Type 0
 HasSpent s b = b ≡ is_spent (option_map ending (outcome_in s.attempt.phase))
 
--- These are the writes that the attempt shows.
+-- The writes that the attempt shows.
 abbrev pub HasShown : State → List Write → Type 0
 HasShown s ws = (ms : List Rule) (B : ℕ) → map change_of ws ≡ shown (caused_chase ms B) s.attempt
 
--- The next answer for the audited update's attempt: there is one only where it is at a question.
+-- The next answer for the audited update's attempt, which has one only at a question.
 abbrev pub HasNext : AuditedUpdate → Option Choice → Type 0
 HasNext r c = (ms : List Rule) (B : ℕ) → c ≡ next_answer (caused_chase ms B) (map choice_of r.answers.items) r.program.attempt
 
--- The plan is that of the audited update's next step over D.
+-- The plan is the one of the audited update's next step over D.
 pub record IsPlanOf (ms : List Rule) (B : ℕ) (D : List Fact) (r : AuditedUpdate) (plan : Plan) : Type 0 where
   pub program : plan.program ≡ at_rest (next_attempt ms B D r.program.attempt (next_answer (caused_chase ms B) (map choice_of r.answers.items) r.program.attempt))
   pub reads : reads_in plan.reads.items ≡ next_reads ms D r.program.attempt (next_answer (caused_chase ms B) (map choice_of r.answers.items) r.program.attempt)
 
--- These are the writes that the step shows.
+-- The writes that the step of the plan shows.
 abbrev pub HasWritten : AuditedUpdate → Plan → List Write → Type 0
 HasWritten r plan ws = (ms : List Rule) (B : ℕ) (D : List Fact) → IsPlanOf ms B D r plan → map change_of ws ≡ step_writes (caused_chase ms B) D (update_of ms B r)

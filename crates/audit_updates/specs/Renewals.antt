@@ -6,7 +6,7 @@ use Rattle.def_steps.specs.Chase.{caused_chase}
 use Rattle.audit_updates.specs.Updates.{update_of}
 use Rattle.audit_updates.specs.declared.updates.AuditedUpdate.{AuditedUpdate}
 
--- One more attempt has a number.
+-- The next attempt has a number of 32 bits.
 abbrev pub HasOneMore : AuditedUpdate → Type 0
 HasOneMore r = r.program.attempt.attempt + 1 < 2 ^ 32
 

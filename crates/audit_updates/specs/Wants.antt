@@ -13,29 +13,29 @@ use Rattle.def_steps.specs.Chase.{caused_chase, ending}
 use Rattle.audit_updates.specs.Updates.{update_of}
 use Rattle.audit_updates.specs.declared.updates.AuditedUpdate.{AuditedUpdate}
 
--- What lacks for what is asked, with the next answer if there is one.
+-- What is lacking at a question, given the next answer if there is one.
 abbrev pub unless_fits : Inquiry → Option Choice → Option Lack
 unless_fits i None = Some Missing
 unless_fits i (Some c) = if fits_inquiry i c then None else Some Misfit
 
--- This is what the attempt lacks, if it is at a question and something is lacking.
+-- What is lacking at the attempt's question, if it is at one and something is lacking.
 abbrev pub HasLack : AuditedUpdate → Option Lack → Type 0
 HasLack r l = (ms : List Rule) (B : ℕ) → l ≡ lack (caused_chase ms B) (map choice_of r.answers.items) r.program.attempt
 
--- Whether it was restarted too often to go on beside lower updates.
+-- Whether the update was restarted too often to go on beside lower updates.
 abbrev pub IsHeld : Settings → ℕ → ℕ → AuditedUpdate → Bool → Type 0
 IsHeld s c n r b = (ms : List Rule) (B : ℕ) → b ≡ is_held (caused_chase ms B) s c n (update_of ms B r)
 
--- Where the update is ready, its attempt wants a step with this answer, or with none.
+-- If the update is ready, its attempt wants a step with this answer, or without one if there is none.
 abbrev pub WantsNext : AuditedUpdate → Option Choice → Type 0
 WantsNext r c =
     (ms : List Rule) (B : ℕ) (s : Settings) (k n : ℕ) → is_ready (standing (caused_chase ms B) s k n (update_of ms B r)) ≡ true → WantsStep (wish r.program) c
 
--- This is the standing of an update whose attempt ended so.
+-- The standing of an update whose attempt has this end.
 abbrev pub StandsEnded : End → Standing → Type 0
 StandsEnded e st = (o : Outcome) → end_in o ≡ e → st ≡ Ended (ending o)
 
--- This is the standing of an update that was not withdrawn, and whose attempt has not ended.
+-- The standing of an update that is not withdrawn and whose attempt has not ended.
 abbrev pub StandsGoing : Settings → ℕ → ℕ → AuditedUpdate → Standing → Type 0
 StandsGoing s c n r st =
     (ms : List Rule) (B : ℕ) → st ≡ (if is_held (caused_chase ms B) s c n (update_of ms B r) then Held (suc c) else unless_paused (lack (caused_chase ms B) (map choice_of r.answers.items) r.program.attempt))

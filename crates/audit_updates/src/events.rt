@@ -14,7 +14,7 @@ use std::collections::VecDeque;
 use std::mem;
 
 impl AuditedUpdate {
-    /// The update of this number as it is when it is admitted, with these answers recorded for it.
+    /// The update `number` as it is when it is admitted, with `answers` recorded for it.
     pub fn admit(
         alloc: Global,
         update: &Update,
@@ -34,7 +34,7 @@ impl AuditedUpdate {
         })
     }
 
-    /// Makes the step of the plan: its attempt and its reads are taken over. If it is refused, the update is as it was.
+    /// Makes the step of the plan: the update takes the plan's attempt and reads. After an error the update is unchanged.
     pub fn step(&mut self, plan: Plan) -> Result<(), Memory>
         ensures stepped { OnOk result (HasStepped plan self.old self.new) }
         ensures place { OnOk result (KeepsPlaceBy plan self.old self.new) }
@@ -49,7 +49,7 @@ impl AuditedUpdate {
         }
     }
 
-    // Makes the step of the plan, where there is room for its reads.
+    // Makes the step of the plan. There is room for its reads.
     fn follow(&mut self, plan: Plan) -> Result<(), Memory>
         requires room { length plan.reads.items ≤ self.old.log.spare }
         ensures ok { IsOk result }
@@ -61,7 +61,7 @@ impl AuditedUpdate {
         take_over(&mut self.log, reads)
     }
 
-    /// Delivers the first recorded answer, if there is one. If it is refused, the update is as it was.
+    /// Delivers the first recorded answer, if there is one. After an error the update is unchanged.
     pub fn deliver(&mut self) -> Result<(), Memory>
         ensures delivered { OnOk result (HasDelivered self.old self.new) }
         ensures place { OnOk result (KeepsPlace self.old self.new) }
@@ -75,8 +75,8 @@ impl AuditedUpdate {
         Ok(())
     }
 
-    /// Puts the choice where the attempt waits for an answer; answers that were delivered for later questions are dropped. If it
-    /// is refused, the update is as it was.
+    /// Makes the choice the next answer of the attempt; answers that were delivered for later questions are dropped. After an
+    /// error the update is unchanged.
     pub fn answer(&mut self, alloc: Global, choice: Choice) -> Result<(), Memory>
         ensures answered { OnOk result (HasAnswered choice self.old self.new) }
         ensures place { OnOk result (KeepsPlace self.old self.new) }
@@ -87,7 +87,7 @@ impl AuditedUpdate {
         Ok(())
     }
 
-    /// Withdraws the update: it loses its trail and its log.
+    /// Withdraws the update, which loses its trail and its log.
     pub fn withdraw(&mut self)
         ensures withdrawn { HasWithdrawn self.old self.new }
         ensures place { KeepsPlace self.old self.new }
@@ -97,14 +97,14 @@ impl AuditedUpdate {
     }
 }
 
-// Puts the attempt in the place of another one, which is let go.
+// Puts the attempt in the place of another one, which is dropped.
 pub(crate) fn renew(place: &mut Attempt, fresh: Attempt)
     ensures fresh { place.new ≡ fresh }
 {
     drop(mem::replace(place, fresh));
 }
 
-// Copies of the answers as a queue.
+// A queue of copies of the answers.
 fn queued(alloc: Global, answers: &ChoiceList) -> Result<VecDeque<Choice>, Memory>
     ensures same { IfOk result (λ queue.
         map choice_of queue.items ≡ map choice_of answers.now.items) }
@@ -116,7 +116,7 @@ fn queued(alloc: Global, answers: &ChoiceList) -> Result<VecDeque<Choice>, Memor
     Ok(queue)
 }
 
-// Puts the reads at the end of the log, which has room for them.
+// Appends the reads to the log, which has room for them.
 fn take_over(log: &mut ReadLog, reads: ReadLog) -> Result<(), Memory>
     requires room { length reads.items ≤ log.old.spare }
     ensures ok { IsOk result }
@@ -128,7 +128,8 @@ fn take_over(log: &mut ReadLog, reads: ReadLog) -> Result<(), Memory>
     Ok(())
 }
 
-// Puts the choice behind so many of the answers, in place of all others. If it is refused, the answers are as they were.
+// Keeps the first `many` answers, and puts the choice after them in place of all others. After an error the answers are
+// unchanged.
 fn put_at(
     alloc: Global,
     answers: &mut ChoiceList,
@@ -148,7 +149,7 @@ fn put_at(
     Ok(())
 }
 
-// Drops the answers behind so many.
+// Keeps the first `many` answers, and drops the others.
 fn keep(alloc: Global, answers: &mut ChoiceList, many: usize)
     ensures first { answers.new.items ≡ take many answers.old.items }
 {

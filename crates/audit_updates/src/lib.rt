@@ -1,9 +1,9 @@
 //! The audited updates of a replay: each update with its present attempt, what it may do next, and what an event does
 //! to it.
 //!
-//! What audited updates mean is said in `specs/Updates.antt`: they are the updates of a history of the chase. The
-//! audited updates of a replay have the numbers of their places, from 1, and stand between two steps (`AreFrom 1
-//! updates`). What is told of them is said for the machine of any mappings and any budget.
+//! `specs/Updates.antt` says what audited updates mean: they are the updates of a history of the chase. The audited updates of a
+//! replay have the numbers of their places, from 1, and stand between two steps (`AreFrom 1 updates`). Contracts on them hold for
+//! the machine of any mappings and any budget.
 #![tactic(auto)]
 
 mod events;

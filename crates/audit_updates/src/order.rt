@@ -7,7 +7,7 @@ ghost use Rattle.audit_updates.specs.Order.{HasCommitted, IsFirstReady, IsFirstD
 use crate::settings::Settings;
 use crate::updates::AuditedUpdate;
 
-/// How many updates are committed: the longest prefix of those that are over.
+/// The number of committed updates: the length of the longest prefix of updates that are over.
 pub fn committed(updates: &[AuditedUpdate]) -> u32
     requires from { AreFrom 1 updates.now }
     ensures committed { HasCommitted updates.now result }
@@ -33,7 +33,7 @@ pub fn is_quiet(updates: &[AuditedUpdate], settings: Settings) -> bool
     none_ready && none_deliverable
 }
 
-// The least number of a ready update, where so many are committed.
+// The least number of a ready update, given the number of committed updates.
 fn first_ready(updates: &[AuditedUpdate], settings: Settings, committed: u32) -> Option<u32>
     requires from { AreFrom 1 updates.now }
     ensures first { IsFirstReady (settings_of settings) committed 1 updates.now result }
@@ -47,7 +47,7 @@ fn first_ready(updates: &[AuditedUpdate], settings: Settings, committed: u32) ->
     None
 }
 
-// The least number of a deliverable update, where so many are committed.
+// The least number of a deliverable update, given the number of committed updates.
 fn first_deliverable(updates: &[AuditedUpdate], settings: Settings, committed: u32) -> Option<u32>
     requires from { AreFrom 1 updates.now }
     ensures first { IsFirstDeliverable (settings_of settings) committed 1 updates.now result }
@@ -61,7 +61,7 @@ fn first_deliverable(updates: &[AuditedUpdate], settings: Settings, committed: u
     None
 }
 
-// Whether there is no such update.
+// Whether no update was found.
 fn is_none(number: Option<u32>) -> bool
     ensures none { result ≡ is_none_def number }
 {

@@ -1,4 +1,4 @@
-//! How an attempt between two steps stands: how it ended, what it asks, and which of its writes it shows.
+//! The state of an attempt between two steps: how it ended, what it asks, and which of its writes it shows.
 ghost use Rattle.std.specs.Prelude.{◌≡◌};
 ghost use Rattle.std.specs.Option.{option_map, option_copied};
 ghost use Rattle.chase_question.specs.Inquiries.{inquiry_of};
@@ -25,7 +25,7 @@ pub fn asked(program: &Attempt) -> Option<&Question>
     question_in(program.wants())
 }
 
-/// Whether the attempt ended out of its budget of steps.
+/// Whether the attempt ended because its budget of steps was used up.
 pub fn has_spent(program: &Attempt) -> bool
     requires between { IsBetween program.now }
     ensures spent { HasSpent program.now result }
@@ -33,7 +33,7 @@ pub fn has_spent(program: &Attempt) -> bool
     is_spent(outcome(program))
 }
 
-/// The writes that the attempt shows to others: its own, and none where it ended spent or refused.
+/// The writes that the attempt shows to others: its own, or none if it ended spent or refused.
 pub fn shown(program: &Attempt) -> &[Write]
     requires between { IsBetween program.now }
     ensures shown { HasShown program.now result.now }
@@ -45,7 +45,7 @@ pub fn shown(program: &Attempt) -> &[Write]
     }
 }
 
-// How an attempt ended that wants this.
+// How an attempt ended, by what it wants.
 fn outcome_in(want: Want<'_>) -> Option<Outcome>
     ensures ended { option_map end_of result ≡ end_wished (want_of want.entry) }
 {
@@ -57,7 +57,7 @@ fn outcome_in(want: Want<'_>) -> Option<Outcome>
     }
 }
 
-// The question that is asked by an attempt that wants this.
+// The question that an attempt asks, by what it wants.
 fn question_in<'a>(want: Want<'a>) -> Option<&'a Question>
     ensures asked { option_map inquiry_of (option_copied result) ≡
         inquiry_wished (want_of want.entry) }
@@ -70,14 +70,14 @@ fn question_in<'a>(want: Want<'a>) -> Option<&'a Question>
     }
 }
 
-// Whether this is the end of an attempt out of its budget.
+// Whether the attempt ended because its budget was used up.
 fn is_spent(outcome: Option<Outcome>) -> bool
     ensures spent { result ≡ is_spent_end (option_map end_of outcome) }
 {
     matches!(outcome, Some(Outcome::Spent))
 }
 
-// Whether an attempt that ended so, or has not ended, hides its writes.
+// Whether an attempt with this end, or with none, hides its writes.
 fn hides(outcome: Option<Outcome>) -> bool
     ensures hidden { result ≡ hides_end (option_map end_of outcome) }
 {

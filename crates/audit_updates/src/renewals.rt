@@ -9,8 +9,8 @@ use base_types::Memory;
 use std::alloc::Global;
 
 impl AuditedUpdate {
-    /// Begins the next attempt: the update loses its writes and its log, and keeps its answers. If it is refused, the update is
-    /// as it was.
+    /// Begins the next attempt: the update loses its writes and its log, and keeps its answers. After an error the update is
+    /// unchanged.
     pub fn restart(&mut self, alloc: Global) -> Result<(), Memory>
         requires more { HasOneMore self.old }
         ensures restarted { OnOk result (HasRestarted self.old self.new) }

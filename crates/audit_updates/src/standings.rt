@@ -21,8 +21,8 @@ use chase_update::{Lack, Outcome};
 use core_entries::Standing;
 
 impl AuditedUpdate {
-    /// The next answer for the attempt: there is one only where it is at a question. A ready update wants its next step with just
-    /// this.
+    /// The next answer for the attempt, which has one only at a question. If the update is ready, its next step uses exactly this
+    /// answer.
     pub fn next_answer(&self) -> Option<&Choice>
         requires between { IsBetween self.now.program }
         ensures next { HasNext self.now (option_map choice_of (option_copied result)) }
@@ -35,7 +35,7 @@ impl AuditedUpdate {
         }
     }
 
-    /// What the update may do next, where so many updates are committed and it has this number.
+    /// What the update `number` may do next, if `committed` updates are committed.
     pub fn standing(&self, settings: Settings, committed: u32, number: u32) -> Standing
         requires between { IsBetween self.now.program }
         ensures standing { HasStanding (settings_of settings) committed number self.now result }
@@ -68,7 +68,7 @@ impl AuditedUpdate {
         pending && recorded
     }
 
-    /// Whether the update may be answered so: it is paused, and the choice answers its question.
+    /// Whether the update takes the choice as an answer: it is paused, and the choice answers its question.
     pub fn takes(&self, settings: Settings, committed: u32, number: u32, choice: &Choice) -> bool
         requires between { IsBetween self.now.program }
         ensures takes { Takes (settings_of settings) committed number (choice_of choice.now)
@@ -90,7 +90,7 @@ impl AuditedUpdate {
         }
     }
 
-    // The standing of an update that was not withdrawn, and whose attempt has not ended.
+    // The standing of an update that is not withdrawn and whose attempt has not ended.
     fn standing_going(&self, settings: Settings, committed: u32, number: u32) -> Standing
         requires between { IsBetween self.now.program }
         ensures standing { StandsGoing (settings_of settings) committed number self.now
@@ -105,7 +105,7 @@ impl AuditedUpdate {
         }
     }
 
-    // Whether it was restarted too often to go on beside lower updates.
+    // Whether the update was restarted too often to go on beside lower updates.
     fn is_held(&self, settings: Settings, committed: u32, number: u32) -> bool
         ensures held { IsHeld (settings_of settings) committed number self.now result }
         ensures room { result ≡ true → committed + 1 < number }
@@ -113,14 +113,14 @@ impl AuditedUpdate {
         settings.retries < self.program.attempt() && u64::from(committed) + 1 < u64::from(number)
     }
 
-    // Whether an answer is recorded that was not delivered yet.
+    // Whether a recorded answer is not delivered yet.
     fn has_recorded(&self) -> bool
         ensures recorded { result ≡ not (is_nil (map choice_of self.now.inbox.items)) }
     {
         !self.inbox.is_empty()
     }
 
-    /// What is lacking at the question, if it is at one and something is.
+    /// What is lacking at the update's question, if it is at one and something is lacking.
     pub fn lack(&self) -> Option<Lack>
         requires between { IsBetween self.now.program }
         ensures lack { HasLack self.now (option_map lack_of result) }
@@ -134,7 +134,7 @@ impl AuditedUpdate {
     }
 }
 
-// The standing of an update whose attempt has ended so.
+// The standing of an update whose attempt has this end.
 fn ended(outcome: Outcome) -> Standing
     ensures ended { StandsEnded (end_of outcome) (standing_of result) }
 {
@@ -145,7 +145,7 @@ fn ended(outcome: Outcome) -> Standing
     }
 }
 
-// The standing of an update that is at a question, where this is lacking.
+// The standing of an update at a question, by what is lacking.
 fn paused(lack: Lack) -> Standing
     ensures paused { standing_of result ≡ Paused (lack_of lack) }
 {
@@ -155,7 +155,7 @@ fn paused(lack: Lack) -> Standing
     }
 }
 
-// What is lacking at the question, with the next answer if there is one.
+// What is lacking at the question, given the next answer if there is one.
 fn unless_fits(question: &Question, next: Option<&Choice>) -> Option<Lack>
     ensures lack { option_map lack_of result ≡ unless_fits_def (inquiry_of question.now)
         (option_map choice_of (option_copied next.entry)) }

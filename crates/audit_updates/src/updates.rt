@@ -10,8 +10,8 @@ use chase_query::ReadLog;
 use chase_update::Attempt;
 use std::collections::VecDeque;
 
-/// An update with its present attempt, between two steps: the reads of that attempt, whether the update was withdrawn,
-/// the answers delivered, and those that are recorded and not delivered yet.
+/// An update with its present attempt, between two steps: the reads of that attempt, whether the update was withdrawn, the
+/// answers delivered, and the recorded answers that are not delivered yet.
 #[derive(Debug, Drop)]
 pub struct AuditedUpdate {
     pub program: Attempt,
@@ -29,8 +29,7 @@ impl AuditedUpdate {
         self.program.number()
     }
 
-    /// The writes that others see of it: none where it was withdrawn, or its attempt ended spent or refused. It takes no
-    /// memory.
+    /// The update's writes that others see: none if it was withdrawn, or if its attempt ended spent or refused.
     pub fn trail(&self) -> &[Write]
         requires between { IsBetween self.now.program }
         ensures trail { HasTrail self.now result.now }
@@ -41,8 +40,7 @@ impl AuditedUpdate {
         shown(&self.program)
     }
 
-    /// The writes that the step of the plan shows: none where the attempt ends by it spent or refused. It takes no
-    /// memory.
+    /// The writes that the step of the plan shows: none if the attempt ends spent or refused by that step.
     pub fn written<'a>(&self, plan: &'a Plan) -> &'a [Write]
         requires between { IsBetween plan.now.program }
         ensures written { HasWritten self.now plan.now result.now }
@@ -56,7 +54,7 @@ impl AuditedUpdate {
         }
     }
 
-    /// Whether it was withdrawn or its attempt has ended.
+    /// Whether the update was withdrawn or its attempt has ended.
     pub fn is_over(&self) -> bool
         requires between { IsBetween self.now.program }
         ensures over { IsOver self.now result }
@@ -64,7 +62,7 @@ impl AuditedUpdate {
         self.withdrawn || outcome(&self.program).is_some()
     }
 
-    /// Whether it is neither withdrawn nor committed, where so many updates are committed and it has this number.
+    /// Whether the update `number` is neither withdrawn nor committed, if `committed` updates are committed.
     pub fn is_live(&self, committed: u32, number: u32) -> bool
         ensures live { IsLive committed number self.now result }
     {

@@ -5,7 +5,7 @@ use Rattle.audit_verdict.specs.declared.verdicts.Why.TheVariants as whys
 use Rattle.audit_verdict.specs.declared.verdicts.Verdict.{Verdict as VerdictOfProgram}
 use Rattle.audit_verdict.specs.declared.verdicts.Verdict.TheVariants as verdicts
 
--- what a `Why` and a `Verdict` of the program stand for
+-- what a `Why` of the program stands for; then, a `Verdict`
 abbrev pub why_of : WhyOfProgram → Why
 why_of whys.Form = Form
 why_of whys.Event = NotAllowed

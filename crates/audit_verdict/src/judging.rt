@@ -25,8 +25,8 @@ use lang_schema::Schema;
 use lang_session::Session;
 use std::alloc::Global;
 
-/// Whether the bytes are the text of a legal history over the session by these terms that begins with the admissions of all its
-/// updates; else the first line at fault, with the first cause that holds.
+/// Judges whether the bytes are the trace of a legal history of the session by these terms, which begins with the admissions of
+/// all its updates. If not, the verdict has the first line at fault, and the first reason that applies.
 pub fn audit(
     alloc: Global,
     session: &Session,
@@ -50,7 +50,7 @@ pub fn audit(
     Ok(verdict)
 }
 
-// What is told of the lines of a trace, where nothing has happened yet.
+// The verdict on the lines of a trace, by a replay in which nothing has happened yet.
 fn judge(
     alloc: Global,
     replay: &mut Replay<'_>,
@@ -76,7 +76,7 @@ fn judge(
     Ok(at_the_end(replay, entries))
 }
 
-// What is told at the end of a trace without a line at fault.
+// The verdict at the end of a trace without a line at fault.
 fn at_the_end(replay: &Replay<'_>, entries: u64) -> Verdict
     requires replay { IsReplay replay.now }
     requires few { entries < 2 ^ 63 }
@@ -96,7 +96,7 @@ fn at_the_end(replay: &Replay<'_>, entries: u64) -> Verdict
     }
 }
 
-// What is wrong with the next line, if anything is; else its event is made.
+// What is wrong with the next line, if anything is; otherwise its event is made.
 fn fault_in(
     alloc: Global,
     replay: &mut Replay<'_>,
@@ -123,7 +123,7 @@ fn fault_in(
     Ok(Some(Why::Effect))
 }
 
-// The event that is claimed, where it is its turn: the updates of the session are admitted in their order before all else.
+// The claimed event, if it is its turn: the updates of the session are admitted in order, before any other event.
 fn event_of(replay: &Replay<'_>, claim: Claim) -> Option<Event>
     ensures event { HasEvent replay.now (claim_meant claim) result }
 {
@@ -136,14 +136,14 @@ fn event_of(replay: &Replay<'_>, claim: Claim) -> Option<Event>
     }
 }
 
-// The event, where all updates are admitted.
+// The event, if all updates are admitted.
 fn when_whole(replay: &Replay<'_>, event: Event) -> Option<Event>
     ensures event { HasEventWhole replay.now event result }
 {
     if replay.is_whole() { Some(event) } else { None }
 }
 
-// The next admission, where it is that of this update.
+// The next admission, if it admits this update.
 fn admission_of(replay: &Replay<'_>, update: u32) -> Option<Event>
     ensures event { HasEvent replay.now (Admission update) result }
 {
@@ -159,7 +159,7 @@ fn admission_of(replay: &Replay<'_>, update: u32) -> Option<Event>
     Some(Event::Admits)
 }
 
-// Whether the line is the text of the entry, which is let go.
+// Whether the line is the text of the entry, which is dropped.
 fn tells(alloc: Global, schema: &Schema, entry: Entry, line: &[u8]) -> Result<bool, Memory>
     ensures tells { IfOk result (λ same. IsTrue same ↔
         (line.now ++ 10 ∷ [] ≡ entry_line schema.now (entry_of entry))) }
@@ -171,7 +171,7 @@ fn tells(alloc: Global, schema: &Schema, entry: Entry, line: &[u8]) -> Result<bo
     }
 }
 
-// The text of the entry, which is let go.
+// The text of the entry, which is dropped.
 fn text_of(alloc: Global, schema: &Schema, entry: Entry) -> Result<Vec<u8>, Memory>
     ensures line { IfOk result (λ text. text.items ≡ entry_line schema.now (entry_of entry)) }
 {

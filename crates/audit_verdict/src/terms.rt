@@ -1,11 +1,11 @@
-//! By which terms a trace is judged.
+//! The terms by which a trace is judged.
 ghost use Rattle.std.specs.Prelude.{◌≡◌, ◌≤◌};
 
 use audit_updates::Settings;
 use base_limits::Budget;
 
-/// By which terms a history is judged: how many steps an attempt may take, how many retries an update has, at most 4, and how
-/// dependences are tested.
+/// The terms by which a history is judged: the budget of an attempt, the retries of an update, at most 4, and how dependences are
+/// tested.
 #[derive(Clone, Copy, Debug)]
 pub struct Terms {
     pub budget: Budget,
@@ -14,7 +14,7 @@ pub struct Terms {
 }
 
 impl Terms {
-    /// These terms.
+    /// Terms with this budget and these settings.
     pub fn new(budget: Budget, settings: Settings) -> Terms
         requires few { settings.retries ≤ 4 }
         ensures budget { result.budget ≡ budget }

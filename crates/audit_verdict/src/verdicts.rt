@@ -1,4 +1,4 @@
-//! What is told of a trace.
+//! The verdict on a trace.
 ghost use Rattle.std.specs.Prelude.{◌≡◌, IfOk};
 ghost use Rattle.audit_verdict.specs.Verdicts.{verdict_of};
 ghost use Rattle.audit_claims.specs.Verdicts.{verdict_text};
@@ -6,7 +6,7 @@ ghost use Rattle.audit_claims.specs.Verdicts.{verdict_text};
 use base_types::Memory;
 use std::alloc::Global;
 
-/// What is wrong with a line, the first of these that is: its form, the event that it tells, or what it tells of its effect.
+/// What is wrong with a line, the first of these: its form, the event that it claims, or the effect that it claims.
 #[derive(Clone, Copy, Debug, PartialEq, Eq)]
 pub enum Why {
     Form,
@@ -14,15 +14,15 @@ pub enum Why {
     Effect,
 }
 
-/// What is told of a trace: it is the text of a legal history, with so many entries, after which it is quiet or not; or the
-/// first line at fault, counted from 1.
+/// The verdict on a trace: it is the text of a legal history with `entries` entries, after which nothing is left to do if
+/// `quiet`; or `line`, from 1, is the first line at fault.
 #[derive(Clone, Copy, Debug, PartialEq, Eq)]
 pub enum Verdict {
     Yes { entries: u64, quiet: bool },
     No { line: u64, why: Why },
 }
 
-/// The line that tells the verdict, without its line feed.
+/// The line that says the verdict, without its line feed.
 pub fn verdict_line(alloc: Global, verdict: Verdict) -> Result<Vec<u8>, Memory>
     ensures line { IfOk result (λ line. line.items ≡ verdict_text (verdict_of verdict)) }
 {

@@ -1,7 +1,6 @@
-//! What `run` writes of a session with its trace is what `audit` says yes to: laws, each the contract of a function that does
-//! nothing.
+//! `audit` says yes to what `run --trace` writes: laws, each the contract of a function that does nothing.
 //!
-//! `specs/Circle.antt` says which runs they are about, and what is put before the auditor.
+//! `specs/Circle.antt` says which runs the laws are about, and what the auditor reads.
 #![tactic(auto)]
 
 mod laws;

@@ -7,6 +7,6 @@ use Rattle.cmd_plain.specs.Base.{base_line}
 use Rattle.def_language.specs.Sessions.{SessionData}
 use Rattle.lang_session.specs.Base.{Violated, base_violation}
 
--- the refusal tells the violation
+-- the output is the refusal with the violation of the base
 abbrev pub IsRefusal : SessionData → Output → Type 0
 IsRefusal s output = (v : Violated) × (base_violation s ≡ Some v) × (view_of output ≡ Refused BaseViolates (base_line s.relations v))

@@ -12,8 +12,8 @@ use Rattle.cmd_threads.specs.Nulls.{NamesNulls}
 use Rattle.cmd_threads.specs.Runs.{run_text}
 use Rattle.work_session.specs.Runs.{IsRunOf}
 
--- The source gave the whole text of a session, `out` took what is printed of a run of it, in the repository that it tells
--- every mapping in force holds, and each null there has a name of its own.
+-- The source gave the whole text of a session, and `out` took the text for a run of it. In the repository of the result every
+-- mapping in force holds, and each null has a name of its own.
 pub record WroteRun (trace : Bool) (steps : ℕ) (c : Settings) (source out : Change) : Type 0 where
   pub input : List ℕ
   pub session : SessionData

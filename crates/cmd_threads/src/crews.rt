@@ -1,11 +1,11 @@
-//! By how many workers a session's updates are taken, and by which settings.
+//! The number of workers that run a session's updates, and their settings.
 ghost use Rattle.std.specs.Prelude.{◌≡◌, ◌≤◌};
 ghost use Rattle.core_queue.specs.declared.settings.Settings.{Settings};
 
 use core_queue::Settings;
 use std::marker::Model;
 
-/// By how many workers a session's updates are taken, from 1 to 16, and by which settings, with at most 4 retries.
+/// The number of workers that run a session's updates, from 1 to 16, and their settings, with at most 4 retries.
 #[derive(Clone, Copy, Debug)]
 pub struct Crew {
     workers: u32,
@@ -26,7 +26,7 @@ impl Model for Crew {
 }
 
 impl Crew {
-    /// So many workers, with these settings.
+    /// A crew of `workers` workers with these settings.
     pub fn new(workers: u32, settings: Settings) -> Crew
         requires workers { (1 ≤ workers) × (workers ≤ 16) }
         requires retries { settings.retries ≤ 4 }
@@ -35,7 +35,7 @@ impl Crew {
         Crew { workers, settings }
     }
 
-    /// How many workers there are.
+    /// The number of workers.
     pub fn seats(self) -> u64
         ensures same { result ≡ self.workers }
         ensures few { (1 ≤ result) × (result ≤ 16) }

@@ -26,21 +26,22 @@ use std::time::Clock;
 use work_loop::Gate;
 use work_session::worked;
 
-/// `drill`: a session generated from a seed, its updates taken by workers, each in a thread of its own, and the summary of
-/// that: how many updates ended in each way, the steps that they made, the nulls that they drew, and the tuples that they left.
+/// `drill`: generates a session from a seed, lets workers run its updates, each worker in a thread of its own, and prints a
+/// summary. It says how many updates ended in each way, the steps that they made, the nulls that they drew, and the tuples that
+/// they left.
 #[derive(Clone, Copy, Debug)]
 pub struct Drill {
-    /// By how many workers the updates are taken, and by which settings.
+    /// The workers that run the updates, and their settings.
     pub crew: Crew,
-    /// How many steps an update may take.
+    /// The number of steps that an update may make.
     pub budget: Budget,
-    /// How many updates are generated.
+    /// The number of updates that are generated.
     pub count: Count,
     /// The seed of the generator.
     pub seed: u64,
 }
 
-// What is printed of a run of the generated session.
+// The output for a run of the generated session.
 fn summary_output(
     alloc: Global,
     count: Count,
@@ -55,7 +56,7 @@ fn summary_output(
 }
 
 impl Drill {
-    // Lets the workers take the updates of a session, and gives what that comes to.
+    // Lets the workers run the updates of a session, and gives its result.
     fn take<R: Threads + Wait + Clock + Sync, G: Gate + Sync>(
         self,
         rt: &R,
@@ -74,7 +75,7 @@ impl Drill {
         run.result(alloc)
     }
 
-    // Lets them take those of the generated session.
+    // Lets the workers run the updates of the generated session.
     fn work<R: Threads + Wait + Clock + Sync, G: Gate + Sync>(
         self,
         rt: &R,
@@ -88,7 +89,7 @@ impl Drill {
         self.take(rt, gate, alloc, &session)
     }
 
-    // What is made of that.
+    // The output for the generated session.
     fn make<R: Threads + Wait + Clock + Sync, G: Gate + Sync>(
         self,
         rt: &R,
@@ -104,9 +105,9 @@ impl Drill {
         summary_output(alloc, count, seed, &told)
     }
 
-    /// Runs the generated session, and writes its summary to `out`, as `cmd_frame::perform_alone` does it for a command
-    /// without threads: each status has its row, and nothing is read. Each worker passes the gate around the work at a ticket.
-    /// The call may wait.
+    /// Runs the generated session, and writes its summary to `out`, as `cmd_frame::perform_alone` does for a command without
+    /// threads: each status has its row, and nothing is read. Each worker passes the gate around its work on a ticket. The call
+    /// may wait.
     pub fn perform<R: Threads + Wait + Clock + Sync, G: Gate + Sync, O: Sink, E: Sink>(
         self,
         rt: &R,

@@ -1,4 +1,4 @@
-//! Laws of what the command `run` makes and writes.
+//! Laws on what the command `run` makes and writes.
 ghost use Rattle.std.specs.Prelude.{◌≡◌, ◌≤◌, ℕ, Bool, List, false};
 ghost use Rattle.cmd_frame.specs.Devices.{Change};
 ghost use Rattle.cmd_frame.specs.Outputs.{OutputView};
@@ -15,22 +15,22 @@ ghost use Rattle.cmd_threads.specs.Written.{WroteRun};
 use def_language::spelled_sessions_are_valid;
 use run_laws::runs_meet_their_mappings;
 
-/// Without its trace, `run` makes of an input just what `serial` makes of it, whatever the workers and the settings.
+/// Without its trace, `run` makes of an input the same output as `serial`, whatever the workers and the settings.
 pub fn untraced_runs_are_serial()
     ensures { (steps : ℕ) (c : Settings) (input : List ℕ) (output : OutputView) →
         on_session_by (running false steps c) input output → on_session (ran steps) input output }
 {}
 
-/// With its trace or without, `run` has one status for an input: that of `serial`.
+/// With its trace or without, `run` ends on an input with the same status as `serial`.
 pub fn runs_have_the_serial_status()
     ensures { (trace : Bool) (steps : ℕ) (c : Settings) (input : List ℕ)
         (output other : OutputView) → on_session_by (running trace steps c) input output →
         on_session (ran steps) input other → status_of output ≡ status_of other }
 {}
 
-/// Where `run`, performed with a budget, ends or stops, it has written the result text of what the serial machine tells of
-/// the session, and behind it, if it was asked for, the trace of a history of it. Every mapping in force holds in the
-/// repository that the result tells.
+/// If `run`, with a valid budget, ends or stops at a question, it has written the result text of the serial machine's result on
+/// the session, followed, if it was asked for, by the trace of one of its histories. Every mapping in force holds in the
+/// repository of that result.
 pub fn performed_runs_write_their_trace()
     ensures { (trace : Bool) (steps : ℕ) (c : Settings) (status : Status)
         (source out err : Change) → 1 ≤ steps → steps ≤ 1000001 → HasWritten status →

@@ -1,7 +1,7 @@
-//! The command `run`: a session's updates taken by workers, and what is printed of that.
+//! The commands `run` and `drill`: workers run a session's updates, and the result is printed.
 //!
-//! `specs/Runs.antt` says what it makes of a session: whatever the schedule of the workers, the result text of the serial
-//! machine, and behind it, where the trace is asked for, the text of a history that the workers may make.
+//! `specs/Runs.antt` says what `run` makes of a session: whatever the schedule of the workers, the result text of the serial
+//! machine, followed, if the trace is asked for, by the text of a history that the workers may make.
 #![tactic(auto)]
 
 mod crews;

@@ -35,19 +35,19 @@ use std::time::Clock;
 use work_loop::Gate;
 use work_session::{Answers, WorkedSession, Working, worked_over};
 
-/// `run`: the updates taken by workers, each in a thread of its own; how each update ended, where they stopped, if they did,
-/// and the repository that they left. Where it is asked for, the trace of the workers' history follows.
+/// `run`: lets workers run the updates, each worker in a thread of its own, and prints how each update ended, where they stopped,
+/// if they did, and the repository that they leave. If it is asked for, the trace of the workers' history follows.
 #[derive(Clone, Copy, Debug)]
 pub struct Run {
-    /// By how many workers the updates are taken, and by which settings.
+    /// The workers that run the updates, and their settings.
     pub crew: Crew,
-    /// How many steps an update may take.
+    /// The number of steps that an update may make.
     pub budget: Budget,
     /// Whether the trace is printed too.
     pub trace: bool,
 }
 
-// The base of the session as a set of tuples, where it violates no mapping; else the refusal that tells the violation.
+// The base of the session as a set of tuples, if it violates no mapping; otherwise the refusal with the violation.
 fn met_base(alloc: Global, session: &Session) -> Result<Result<IndexedFacts, Output>, Memory>
     requires valid { IsSession (session_of session.now) }
     ensures base { IfOk result (λ found. IfOk found (λ base. base ≡ (session_of session.now).base)) }
@@ -62,7 +62,7 @@ fn met_base(alloc: Global, session: &Session) -> Result<Result<IndexedFacts, Out
     }
 }
 
-// The text, and the trace of the history behind it, if it is asked for.
+// The text, followed by the trace of the history, if it is asked for.
 fn with_trace(
     alloc: Global,
     mut text: Vec<u8>,
@@ -79,7 +79,7 @@ fn with_trace(
     Ok(text)
 }
 
-// What is printed of a session that workers ran.
+// The output for a session that workers ran.
 fn run_output(
     alloc: Global,
     session: &Session,
@@ -98,7 +98,8 @@ fn run_output(
     Ok(Output::Text(ending, whole))
 }
 
-// When answers are delivered: at once, unless the trace is asked for. That of one worker has the order in which a desk gives tickets.
+// When answers are delivered: at once, unless the trace is asked for. Then the trace of one worker has the order in which a desk
+// gives tickets.
 fn answers_for(trace: bool) -> Answers {
     match trace {
         true => Answers::Last,
@@ -107,7 +108,7 @@ fn answers_for(trace: bool) -> Answers {
 }
 
 impl Run {
-    // Lets the workers take the updates of the session, whose base meets its mappings.
+    // Lets the workers run the updates of the session, whose base meets its mappings.
     fn work<R: Threads + Wait + Clock + Sync, G: Gate + Sync>(
         self,
         rt: &R,
@@ -130,12 +131,12 @@ impl Run {
         };
         let run = worked_over(rt, gate, alloc, session, base, working)?;
         let output = run_output(alloc, session, &run, self.trace)?;
-        // The process ends with the command, and gives back at once what the workers leave.
+        // The process ends with the command, which frees at once what the workers leave.
         mem::forget(run);
         Ok(output)
     }
 
-    // What it makes of a session.
+    // The output for a session.
     fn make<R: Threads + Wait + Clock + Sync, G: Gate + Sync>(
         self,
         rt: &R,
@@ -153,7 +154,7 @@ impl Run {
         }
     }
 
-    // What it makes of an input. One that spells no session is refused as every command on sessions refuses it.
+    // The output for an input. An input that spells no session is refused as by every command on sessions.
     fn make_of<R: Threads + Wait + Clock + Sync, G: Gate + Sync>(
         self,
         rt: &R,
@@ -171,7 +172,7 @@ impl Run {
         }
     }
 
-    // Reads all that the source has, and makes the output of it.
+    // Reads all of the source, and makes the output of it.
     fn read_and_run<R: Threads + Wait + Clock + Sync, G: Gate + Sync, S: Source>(
         self,
         rt: &R,
@@ -188,8 +189,8 @@ impl Run {
     }
 
     /// Reads all of `source`, runs the session that it spells, and writes the text to `out` or the refusal to `err`, as
-    /// `cmd_frame::perform` does it for a command without threads: each status has its row. Each worker passes the gate around the
-    /// work at a ticket. The call may wait.
+    /// `cmd_frame::perform` does for a command without threads: each status has its row. Each worker passes the gate around its
+    /// work on a ticket. The call may wait.
     pub fn perform<R: Threads + Wait + Clock + Sync, G: Gate + Sync, S: Source, O: Sink, E: Sink>(
         self,
         rt: &R,

@@ -9,9 +9,9 @@ use Rattle.def_language.specs.Parts.{name_at}
 use Rattle.def_language.specs.Statements.{WrittenOperation, WrittenChoice, Statement, Update, Answer}
 use Rattle.def_language.specs.Words.{Word, name, words_at}
 
--- What a curator asks for: to admit an update with its label, curator and operation; a step of the lowest update that is
--- ready; a delivery to the lowest that a recorded answer waits for; to answer the question of the update with the label; to
--- withdraw it; to be told its question; to end.
+-- What a curator asks for: to admit an update with its label, curator and operation; a step of the lowest update that is ready; a
+-- delivery to the lowest update that a recorded answer waits for; to answer the question of the update with the label; to
+-- withdraw that update; to show its question; to end.
 pub data Asked : Type 0 where
   AskUpdate : Name → Name → WrittenOperation → Asked
   AskStep : Asked
@@ -21,7 +21,7 @@ pub data Asked : Type 0 where
   AskQuestion : Name → Asked
   AskEnd : Asked
 
--- A line is blank, or has no form, or asks for something.
+-- A line is blank, or is no command, or asks for something.
 pub data Saying : Type 0 where
   Nothing : Saying
   NoForm : Saying
@@ -43,8 +43,8 @@ stated (Ok (Update label curator op)) = Asks (AskUpdate label curator op)
 stated (Ok (Answer label choice)) = Asks (AskAnswer label choice)
 stated _ = NoForm
 
--- What the words say of which the first is the name n, and behind which the rest stands: step | deliver | quit |
--- withdraw LABEL | question LABEL | update LABEL CURATOR .. | answer LABEL .., the last two as in a session of format 1.
+-- What the name n and the words after it say: step | deliver | quit | withdraw LABEL | question LABEL | update LABEL CURATOR .. |
+-- answer LABEL .., the last two as in a session of format 1.
 abbrev pub command_at : Name → List Word → Saying
 command_at n rest =
     if same_name n (codes "step") then alone rest AskStep
@@ -60,11 +60,11 @@ words_say [] = Nothing
 words_say (name n ∷ rest) = command_at n rest
 words_say _ = NoForm
 
--- what tokens say; a line with a lexical fault has no form
+-- what tokens say; a line with a lexical fault is no command
 abbrev pub tokens_say : Result (List Word) LexRefusal → Saying
 tokens_say (Ok words) = words_say words
 tokens_say (Err refusal) = NoForm
 
--- What a line says. It has to be UTF-8.
+-- What a line says. A line that is not UTF-8 is no command.
 abbrev pub line_says : List ℕ → Saying
 line_says line = if is_text line then tokens_say (words_at line) else NoForm

@@ -1,5 +1,5 @@
--- What is asked for, over the relations of the session; nothing where a fact's relation is not known, or has another number
--- of columns.
+-- Operations and choices over the relations of the session; None if a fact's relation is unknown, or has another number of
+-- columns.
 use Rattle.std.specs.Prelude.{List, [], ◌∷◌, Option, Some, None, option_map, option_and_then}
 use Rattle.def_language.specs.Meaning.{fact_of}
 use Rattle.def_language.specs.Sessions.{RelationSchema}
@@ -8,7 +8,7 @@ use Rattle.def_chase.specs.Updates.{Operation, Adds, Removes, Replaces, Choice, 
 use Rattle.def_chase.specs.Values.{Fact}
 use Rattle.lang_reader.specs.Facts.{known_fact}
 
--- the operation; the lines have none that adds a mapping
+-- the operation; no line asks for one that adds a mapping
 abbrev pub known_operation : List RelationSchema → WrittenOperation → Option Operation
 known_operation relations (InsertFact fact) = option_map Adds (known_fact (fact_of relations fact))
 known_operation relations (DeleteFact fact) = option_map Removes (known_fact (fact_of relations fact))

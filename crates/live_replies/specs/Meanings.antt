@@ -1,4 +1,4 @@
--- What the types of the program mean, and what is said of a reply.
+-- What the types of the program mean, and when a reply is right.
 use Rattle.std.specs.Prelude.{◌≡◌, ℕ, List, false}
 use Rattle.core_entries.specs.Meanings.{standing_of}
 use Rattle.lang_forms.specs.Statements.{choice_of, operation_of}
@@ -42,18 +42,18 @@ refusal_meant refusal.Committed = why.IsCommitted
 refusal_meant (refusal.Stands s) = why.Stands (standing_of s)
 refusal_meant refusal.Misfit = why.Misfits
 
--- the session at which curators work that a `Conversation` is
+-- the session that curators work on, as a `Conversation` has it
 abbrev pub live_of : Conversation → Live
 live_of c = record { session = session_of c.session.now; core = c.core; labels = c.labels.items }
 
--- this is the turn: the text is replied and the session is so then, and it is not the last reply
+-- the turn has the reply `text` and leaves the session `next`, and the reply is not the last one
 abbrev pub IsTold : Turn → List ℕ → Live → Type 0
 IsTold turn text next = turn ≡ record { reply = text; next = next; last = false }
 
--- this is the turn, with its reply
+-- the turn has the reply r and leaves the session `next`
 abbrev pub IsReply : Turn → Live → Reply → Type 0
 IsReply turn next r = turn ≡ record { reply = r.text.items; next = next; last = r.last }
 
--- the reply is that of the line, after which the session is so
+-- the turn of the line has the reply r and leaves the session `next`
 abbrev pub IsReplyTo : Live → List ℕ → Live → Reply → Type 0
 IsReplyTo L line next r = IsReply (line_turn L line) next r

@@ -7,9 +7,9 @@ use Rattle.def_machine.specs.Standings.{Standing}
 use Rattle.lang_report.specs.Results.{lines_text, question_lines}
 use Rattle.audit_trace.specs.Traces.{entry_line, standing_name}
 
--- why a command makes no event: its line has no form; its label is unknown, or used already; a fact goes with no relation;
--- there are as many updates as there may be; a null is not of a lower update; the update is committed, or stands so; the
--- choice does not answer the question
+-- why a command makes no event: its line is no command; its label is unknown, or already used; a fact fits no relation; the
+-- session has the most updates that it may have; a null is not of a lower update; the update is committed, or its standing does
+-- not allow the command; the choice does not answer the question
 pub data Why : Type 0 where
   BadLine : Why
   BadLabel : Why

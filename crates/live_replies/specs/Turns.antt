@@ -1,4 +1,4 @@
--- What the line of a command does to a session at which curators work, and what is replied.
+-- What the line of a command does to a session that curators work on, and the reply to it.
 use Rattle.std.specs.Prelude.{◌≡◌, ℕ, suc, Bool, true, false, List, [], ◌∷◌, ◌++◌, codes, length, map, position, nat_le, nat_lt, Option, Some, None, option_map, if◌then◌else◌}
 use Rattle.lang_session.specs.Admissible.{admits}
 use Rattle.core_engine.specs.LiveCalls.{fits_at, is_withdrawn}
@@ -17,7 +17,7 @@ use Rattle.live_replies.specs.Commands.{Asked, AskUpdate, AskStep, AskDelivery, 
 use Rattle.live_replies.specs.Known.{known_choice, known_operation}
 use Rattle.live_replies.specs.Texts.{Why, BadLine, BadLabel, BadFact, Full, BadNull, IsCommitted, Stands, Misfits, refused_line, last_line, question_text}
 
--- A session at which curators work: what its core is, and the labels of its updates in the order of their numbers.
+-- A session that curators work on: its core, and the labels of its updates in the order of their numbers.
 pub record Live : Type 0 where
   pub session : SessionData
   pub core : State
@@ -27,21 +27,21 @@ pub record Live : Type 0 where
 abbrev pub begun : ℕ → Settings → SessionData → Live
 begun budget c s = record { session = s; core = opened s budget c (length s.updates); labels = labels s.updates }
 
--- What is replied, with its line feeds; what the session is then; whether it is the last reply.
+-- The reply, with its line feeds; the session after it; whether it is the last reply.
 pub record Turn : Type 0 where
   pub reply : List ℕ
   pub next : Live
   pub last : Bool
 
--- nothing is done, and this is replied
+-- nothing changes, and the reply is this text
 abbrev pub says : Live → List ℕ → Turn
 says L text = record { reply = text; next = L; last = false }
 
 abbrev pub refuses : Live → Why → Turn
 refuses L why = says L (refused_line why)
 
--- The event that leads to these entries is made over g, and its entry is replied. Where there is none nothing is said, but
--- the tests before it leave no such case.
+-- The event that leads to these entries is made over g, and the reply is its entry. If there is no such event the reply is empty,
+-- but the tests before it exclude this case.
 abbrev pub made : Live → Ground → List Name → Option (List PlainEntry) → Turn
 made L g names None = says L []
 made L g names (Some H) =
@@ -63,7 +63,7 @@ delivery_turn L (Some u) = event L (grown L.core.over L.core.history (Delivers u
 
 -- ---- withdraw
 
--- of update n, which stands so
+-- the withdrawal of update n, by its standing
 abbrev pub withdrawal_standing : Live → ℕ → Option Standing → Turn
 withdrawal_standing L n None = refuses L BadLabel
 withdrawal_standing L n (Some s) =
@@ -76,7 +76,7 @@ withdrawal_turn L n = withdrawal_standing L n (standing_at L.core n)
 
 -- ---- answer
 
--- the choice for update n, which stands so
+-- the choice for update n, by its standing
 abbrev pub answer_standing : Live → ℕ → Choice → Option Standing → Turn
 answer_standing L n c None = refuses L BadLabel
 answer_standing L n c (Some s) =
@@ -98,12 +98,12 @@ question_turn L n = says L (question_text L.session (option_map inquiry_in (ques
 
 -- ---- update
 
--- the operation is handed in under the label, and admitted
+-- the operation becomes an update with the label, and is admitted
 abbrev pub admission : Live → Name → Operation → Turn
 admission L label op = made L (handed L.core.over op) (L.labels ++ label ∷ []) (grown (handed L.core.over op) L.core.history Admits)
 
--- The operation under the label, which is new: it is refused where there are as many updates as there may be, and then
--- where it names a null that is not of a lower update.
+-- The operation under a new label. It is refused if the session has the most updates that it may have, or else if it names a null
+-- that is not of a lower update.
 abbrev pub update_turn : Live → Name → Operation → Turn
 update_turn L label op =
     if nat_le 1000 (length (updates_at L.core)) then refuses L Full
@@ -117,7 +117,7 @@ update_known L label (Some op) = update_turn L label op
 
 -- ---- each command
 
--- the number of the update at the place among so many
+-- the number of the update at the place among `count` updates
 abbrev pub number_in : ℕ → Option ℕ → Option ℕ
 number_in count None = None
 number_in count (Some place) = if nat_lt place count then Some (suc place) else None
@@ -126,7 +126,7 @@ number_in count (Some place) = if nat_lt place count then Some (suc place) else 
 abbrev pub number_of : Live → Name → Option ℕ
 number_of L label = number_in (length (updates_at L.core)) (position (same_name label) L.labels)
 
--- what is done with the update, if one has the label
+-- the turn for the update with the label, or a refusal if no update has it
 abbrev pub known_label : Live → Option ℕ → (ℕ → Turn) → Turn
 known_label L None turn = refuses L BadLabel
 known_label L (Some n) turn = turn n
@@ -147,6 +147,6 @@ saying_turn L Nothing = says L []
 saying_turn L NoForm = refuses L BadLine
 saying_turn L (Asks a) = command_turn L a
 
--- What the line does, and what is replied.
+-- What the line does, and the reply to it.
 unfoldable pub line_turn : Live → List ℕ → Turn
 line_turn L line = saying_turn L (line_says line)

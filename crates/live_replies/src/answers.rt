@@ -33,7 +33,7 @@ impl<'s> Conversation<'s> {
         }
     }
 
-    // Answers the question of the update, where the facts are known.
+    // Answers the question of the update, if the facts of the choice are known.
     fn answer_written(
         &mut self,
         alloc: Global,

@@ -27,22 +27,22 @@ pub enum Command {
     Deliver,
     /// To answer the question of the update with the label.
     Answer(Name, RawChoice),
-    /// To withdraw it.
+    /// To withdraw the update with the label.
     Withdraw(Name),
-    /// To be told its question.
+    /// To show the question of the update with the label.
     Question(Name),
-    /// To end.
+    /// To end the conversation.
     Quit,
 }
 
 /// What a line says.
 #[derive(Debug, Drop)]
 pub(crate) enum Said {
-    /// Nothing: it is blank.
+    /// Nothing: the line is blank.
     Nothing,
-    /// It has no form.
+    /// The line is no command.
     NoForm,
-    /// It asks for this.
+    /// The line asks for this command.
     Asks(Command),
 }
 
@@ -52,7 +52,7 @@ fn same_name(name: &[u8], word: &[u8]) -> bool
     name == word
 }
 
-// The command that a statement of a session is, if it is one.
+// The command that a statement of a session makes, if it is an update or an answer.
 fn stated(statement: RawStatement) -> Said
     ensures { said_meant result ≡ stated (Ok (statement_of statement)) }
 {
@@ -77,7 +77,7 @@ fn stated_at(alloc: Global, words: Words<'_>) -> Result<Said, Memory>
     }
 }
 
-// The command that begins with the name; `words` begin with it too, and `rest` stands behind it.
+// What the words say that begin with the name `first`, followed by `rest`.
 fn command_at(
     alloc: Global,
     first: &[u8],
@@ -105,7 +105,7 @@ fn command_at(
     stated_at(alloc, words)
 }
 
-// What words say.
+// What the words of a line say.
 fn said_by(alloc: Global, words: Words<'_>) -> Result<Said, Memory>
     ensures { IfOk result (λ said. said_meant said ≡ words_say (words_of words.entry)) }
 {

@@ -1,4 +1,4 @@
-//! A session at which curators work, line by line.
+//! A session that curators work on, line by line.
 ghost use Rattle.std.specs.Prelude.{◌≡◌, ◌≤◌, true, Some, codes, length, map, IfOk};
 ghost use Rattle.core_engine.specs.States.{lowest_deliverable_at, lowest_ready_at, updates_at};
 ghost use Rattle.def_language.specs.Names.{firsts, same_name};
@@ -23,8 +23,8 @@ use lang_schema::Names;
 use lang_session::{Session, SessionUpdate};
 use std::alloc::Global;
 
-/// A session at which curators work: its core, and the labels of its updates in the order of their numbers. What it
-/// stands for is `live_of`.
+/// A session that curators work on: its core, and the labels of its updates in the order of their numbers. Its meaning is
+/// `live_of`.
 #[derive(Drop)]
 pub struct Conversation<'s> {
     pub(crate) session: &'s Session,
@@ -32,10 +32,10 @@ pub struct Conversation<'s> {
     pub(crate) labels: Names,
 }
 
-/// What is replied to a line, and whether it is the last reply.
+/// The reply to a line, and whether it is the last one.
 #[derive(Debug, Drop)]
 pub struct Reply {
-    /// The reply's lines, each with its line feed; nothing to a blank line.
+    /// The lines of the reply, each with its line feed; empty for a blank line.
     pub text: Vec<u8>,
     /// Whether the curator asked to end.
     pub last: bool,
@@ -54,7 +54,7 @@ fn labels_of(alloc: Global, updates: &[SessionUpdate]) -> Result<Names, Memory>
     Ok(names)
 }
 
-// The reply to the wish to end.
+// The reply to `quit`.
 fn bye(alloc: Global) -> Result<Reply, Memory>
     ensures { IfOk result (λ reply. (reply.text.items ≡ codes "bye\n") × (reply.last ≡ true)) }
 {
@@ -84,14 +84,14 @@ impl<'s> Conversation<'s> {
         })
     }
 
-    /// How many updates there are.
+    /// The number of updates.
     pub fn count(&self) -> u32
         ensures count { result ≡ length (updates_at self.now.core) }
     {
         self.core.count()
     }
 
-    /// What the line says is done, and replied. If it is refused, what was done stays.
+    /// Does what the line says, and gives the reply.
     #[tactic(auto, unfolding(crate::specs::Turns::line_turn))]
     pub fn turn(&mut self, alloc: Global, line: &[u8]) -> Result<Reply, Memory>
         ensures turn { IfOk result (IsReplyTo (live_of self.old) line.now (live_of self.new)) }
@@ -109,7 +109,7 @@ impl<'s> Conversation<'s> {
         }
     }
 
-    // What the command asks for is done, and replied.
+    // Does what the command asks for, and gives the reply.
     fn reply(&mut self, alloc: Global, command: Command) -> Result<Reply, Memory>
         ensures { IfOk result (IsReply (command_turn (live_of self.old) (command_meant command))
             (live_of self.new)) }
@@ -128,7 +128,7 @@ impl<'s> Conversation<'s> {
         Ok(Reply { text, last: false })
     }
 
-    // A step of the lowest update that is ready.
+    // Makes a step of the lowest update that is ready.
     fn step(&mut self, alloc: Global) -> Result<Vec<u8>, Memory>
         ensures { IfOk result (λ text. IsTold (step_turn (live_of self.old)
             (lowest_ready_at self.old.core)) text.items (live_of self.new)) }
@@ -139,7 +139,7 @@ impl<'s> Conversation<'s> {
         }
     }
 
-    // A step of the update.
+    // Makes a step of the update.
     #[tactic(auto, using(crate::proofs::Making::event_turn))]
     fn step_of(&mut self, alloc: Global, update: u32) -> Result<Vec<u8>, Memory>
         ensures { IfOk result (λ text. IsTold (step_turn (live_of self.old) (Some update))
@@ -151,7 +151,7 @@ impl<'s> Conversation<'s> {
         }
     }
 
-    // A delivery to the lowest update that a recorded answer waits for.
+    // Delivers an answer to the lowest update that a recorded answer waits for.
     fn deliver(&mut self, alloc: Global) -> Result<Vec<u8>, Memory>
         ensures { IfOk result (λ text. IsTold (delivery_turn (live_of self.old)
             (lowest_deliverable_at self.old.core)) text.items (live_of self.new)) }
@@ -162,7 +162,7 @@ impl<'s> Conversation<'s> {
         }
     }
 
-    // A delivery to the update.
+    // Delivers a recorded answer to the update.
     #[tactic(auto, using(crate::proofs::Making::event_turn))]
     fn deliver_to(&mut self, alloc: Global, update: u32) -> Result<Vec<u8>, Memory>
         ensures { IfOk result (λ text. IsTold (delivery_turn (live_of self.old) (Some update))
@@ -197,7 +197,7 @@ impl<'s> Conversation<'s> {
         }
     }
 
-    /// The number of the update with the label; None exactly where none has it.
+    /// The number of the update with the label; None if no update has it.
     pub(crate) fn number(&self, label: &Name) -> Option<u32>
         ensures number { result ≡ number_of (live_of self.now) label.now.items }
     {
@@ -220,7 +220,7 @@ impl<'s> Conversation<'s> {
     }
 }
 
-// The number of the update at the place, where there are so many.
+// The number of the update at the place, if there are `count` updates.
 fn number_at(place: usize, count: u32) -> Option<u32>
     ensures { result ≡ number_in count (Some place) }
 {

@@ -1,4 +1,4 @@
-//! The forms of commands that are no statements of a session.
+//! The forms of the commands that are no statements of a session.
 ghost use Rattle.std.specs.Prelude.{◌≡◌, IfOk};
 ghost use Rattle.lang_forms.specs.Views.{words_of};
 ghost use Rattle.def_language.specs.Parts.{name_at};
@@ -10,7 +10,7 @@ use base_types::Memory;
 use lang_forms::{FormRefusal, Words, name_at};
 use std::alloc::Global;
 
-/// The command, where no word follows.
+/// The command, if no word follows.
 pub(crate) fn alone(rest: Words<'_>, command: Command) -> Said
     ensures { said_meant result ≡ alone (words_of rest.entry) (command_meant command) }
 {
@@ -20,7 +20,7 @@ pub(crate) fn alone(rest: Words<'_>, command: Command) -> Said
     }
 }
 
-/// A withdrawal, behind its word.
+/// A withdrawal, from the words after `withdraw`.
 pub(crate) fn withdrawal_at(alloc: Global, rest: Words<'_>) -> Result<Said, Memory>
     ensures { IfOk result (λ said. said_meant said ≡
         labelled (name_at (words_of rest.entry)) AskWithdrawal) }
@@ -32,7 +32,7 @@ pub(crate) fn withdrawal_at(alloc: Global, rest: Words<'_>) -> Result<Said, Memo
     }
 }
 
-/// The wish to be told a question, behind its word.
+/// The command that shows a question, from the words after `question`.
 pub(crate) fn question_at(alloc: Global, rest: Words<'_>) -> Result<Said, Memory>
     ensures { IfOk result (λ said. said_meant said ≡
         labelled (name_at (words_of rest.entry)) AskQuestion) }

@@ -1,7 +1,7 @@
-//! The replies to curators who work over one session: each line of a command makes at most one event of the core, and has
-//! one reply.
+//! The replies to curators who work on one session: each line is a command that makes at most one event of the core, and has one
+//! reply.
 //!
-//! `specs/Turns.antt` says what a line does and what is replied, by the definitions of legal histories and of texts.
+//! `specs/Turns.antt` defines what a line does and the reply to it, by the definitions of legal histories and of texts.
 #![tactic(auto)]
 
 mod answers;

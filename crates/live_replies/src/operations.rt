@@ -1,4 +1,4 @@
-//! What is asked for, over the relations of the session.
+//! Operations and choices over the relations of the session.
 ghost use Rattle.std.specs.Prelude.{◌≡◌, map, IfOk};
 ghost use Rattle.std.specs.Option.{option_map};
 ghost use Rattle.base_types.specs.Meanings.{choice_of, fact_of, operation_of};
@@ -12,7 +12,7 @@ use lang_reader::tuple_in;
 use lang_schema::Schema;
 use std::alloc::Global;
 
-/// The operation; None where a fact's relation is not known or has another number of columns.
+/// The operation; None if a fact's relation is unknown or has another number of columns.
 pub(crate) fn known_operation(
     alloc: Global,
     schema: &Schema,
@@ -35,7 +35,7 @@ pub(crate) fn known_operation(
     }
 }
 
-// The tuples of facts; None where a relation of one is not known or has another number of columns.
+// The tuples of facts; None if a fact's relation is unknown or has another number of columns.
 fn known_facts(
     alloc: Global,
     schema: &Schema,
@@ -54,7 +54,7 @@ fn known_facts(
     Ok(Some(tuples))
 }
 
-/// The choice; None where a fact's relation is not known or has another number of columns.
+/// The choice; None if a fact's relation is unknown or has another number of columns.
 pub(crate) fn known_choice(
     alloc: Global,
     schema: &Schema,

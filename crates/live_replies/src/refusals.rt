@@ -1,4 +1,4 @@
-//! Replies of fixed words.
+//! Replies with fixed words.
 ghost use Rattle.std.specs.Prelude.{◌≡◌, IfOk};
 ghost use Rattle.core_entries.specs.Meanings.{standing_of};
 ghost use Rattle.audit_trace.specs.Traces.{standing_name};
@@ -12,19 +12,19 @@ use std::alloc::Global;
 /// Why a command makes no event.
 #[derive(Clone, Copy, Debug)]
 pub(crate) enum Refusal {
-    /// The line has no form.
+    /// The line is no command.
     Line,
     /// No update has the label, or one has it already.
     Label,
-    /// No relation is so called, or it has another number of columns.
+    /// No relation has the fact's name, or it has another number of columns.
     Fact,
-    /// There are as many updates as there may be.
+    /// The session has the most updates that it may have.
     Full,
     /// A null is not of a lower update.
     Null,
     /// The update is committed.
     Committed,
-    /// The update stands so.
+    /// The update's standing does not allow the command.
     Stands(Standing),
     /// The choice does not answer the question.
     Misfit,
@@ -70,7 +70,7 @@ pub(crate) fn refused(alloc: Global, refusal: Refusal) -> Result<Vec<u8>, Memory
     Ok(text)
 }
 
-/// A reply of these words.
+/// A reply with these words.
 pub(crate) fn words(alloc: Global, words: &[u8]) -> Result<Vec<u8>, Memory>
     ensures { IfOk result (λ text. text.items ≡ words.now) }
 {

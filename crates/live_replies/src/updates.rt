@@ -18,7 +18,7 @@ use lang_forms::RawOperation;
 use std::alloc::Global;
 
 impl<'s> Conversation<'s> {
-    /// Admits an update, where its label is new, its relation is known, there is room and it names nulls of lower updates alone.
+    /// Admits an update, if its label is new, its relation is known, there is room, and it names only nulls of lower updates.
     pub(crate) fn update(
         &mut self,
         alloc: Global,
@@ -36,7 +36,7 @@ impl<'s> Conversation<'s> {
         self.update_new(alloc, label, curator, written)
     }
 
-    // The same, where the label is new.
+    // Admits an update whose label is new, if its relation is known, there is room, and it names only nulls of lower updates.
     fn update_new(
         &mut self,
         alloc: Global,
@@ -62,7 +62,7 @@ impl<'s> Conversation<'s> {
         }
     }
 
-    // The same, where the relation is known.
+    // Admits an update whose label is new and whose relation is known, if there is room and it names only nulls of lower updates.
     fn update_known(&mut self, alloc: Global, update: Update) -> Result<Vec<u8>, Memory>
         requires new { is_one_of self.old.labels.items update.label.items ≡ false }
         ensures { IfOk result (λ text. IsTold (update_turn (live_of self.old) update.label.items

@@ -10,8 +10,8 @@ use lang_reader::read_session;
 use lang_session::Session;
 use std::alloc::Global;
 
-/// A case: a line `case STEPS RETRIES DEPS`, a session up to its line `end`, and lines with calls. After any `Err` of `take` it is one to
-/// be let go.
+/// A case: a line `case STEPS RETRIES DEPS`, a session up to its line `end`, and lines with calls. After any `Err` of `take` it
+/// is of no use any more.
 #[derive(Drop)]
 pub struct Case {
     head: Option<String>,
@@ -21,7 +21,7 @@ pub struct Case {
 }
 
 impl Case {
-    /// A case of which no line was taken.
+    /// A case before its first line.
     pub fn new(alloc: Global) -> Case {
         Case {
             head: None,
@@ -45,12 +45,12 @@ impl Case {
         Ok(())
     }
 
-    /// The lines of its calls.
+    /// The lines of the calls.
     pub fn calls(&self) -> &[String] {
         self.calls.as_slice()
     }
 
-    /// Its session. It is refused if its text spells none.
+    /// The session of the case. An error if its text spells none.
     pub fn session(&self, alloc: Global) -> Result<Session, CaseRefusal>
         ensures valid { IfOk result (λ session. IsSession (session_of session)) }
     {
@@ -61,7 +61,7 @@ impl Case {
         Ok(session)
     }
 
-    /// The budget of an attempt, and the settings of the core. They are refused where the first line does not spell them.
+    /// The budget of an attempt, and the settings of the core. An error if the first line does not spell them.
     pub fn settings(&self) -> Result<(Budget, Settings), CaseRefusal>
         ensures retries { IfOk result (λ found. found.1.retries ≤ 4) }
     {
@@ -93,7 +93,7 @@ fn read_settings(line: &str) -> Result<(Budget, Settings), CaseRefusal>
     Ok((budget, settings))
 }
 
-// The budget of so many steps, from 1 to 300.
+// The budget with the number of steps in the word, from 1 to 300.
 fn read_budget(word: &str) -> Result<Budget, CaseRefusal> {
     let steps = word.parse::<u32>()?;
     if steps < 1 || MOST_STEPS < steps {

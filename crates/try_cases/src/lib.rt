@@ -1,4 +1,4 @@
-//! Cases as text, which the programs that try a core read: settings, a session, and calls.
+//! Cases as text, for the programs that test a core: settings, a session, and calls.
 #![tactic(auto)]
 
 mod cases;

@@ -12,13 +12,13 @@ use thiserror::Error;
 /// Why a case is refused.
 #[derive(Clone, Copy, Debug, PartialEq, Eq, Error)]
 pub enum CaseRefusal {
-    /// A line of it is not spelled as it should be.
+    /// A line of the case is not spelled as it should be.
     #[error("a line is not spelled as it should be")]
     Spelling,
-    /// The output took not all that was told.
+    /// The output did not take the whole text.
     #[error("write fault")]
     Output,
-    /// Its calls have no end.
+    /// The calls of the case have no end.
     #[error("the calls have no end")]
     Endless,
     /// There was not enough memory.
@@ -86,7 +86,7 @@ impl<T: Drop> From<AllocFailed<T>> for CaseRefusal {
     }
 }
 
-/// A call that hands its argument back beside `Memory`, where the caller has no more use for it.
+/// For a call that gives its argument back with `Memory`, if the caller has no more use for it.
 impl<T: Drop> From<(T, Memory)> for CaseRefusal {
     fn from(_: (T, Memory)) -> CaseRefusal {
         CaseRefusal::Memory

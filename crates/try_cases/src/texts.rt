@@ -1,4 +1,4 @@
-//! Numbers of updates as they are named, and what is told, in lines.
+//! Names of updates, and the lines of the output.
 use crate::refusals::CaseRefusal;
 use audit_trace::entry_line;
 use base_devices::{Sink, write_all};
@@ -6,7 +6,7 @@ use core_entries::Entry;
 use lang_schema::Schema;
 use std::alloc::Global;
 
-/// The number behind this letter, as 3 in `u3`. It is refused where the name is not spelled so.
+/// The number after this letter, as 3 in `u3`. An error if the name is not spelled in this way.
 pub fn number_of(name: &str, letter: char) -> Result<u32, CaseRefusal> {
     match name.strip_prefix(letter) {
         Some(number) => Ok(number.parse::<u32>()?),
@@ -35,7 +35,7 @@ pub fn with_entries(
     Ok(text)
 }
 
-/// Writes the text. It is refused where the sink takes not all of it.
+/// Writes the text. An error if the sink does not take all of it.
 pub fn tell<O: Sink>(out: &mut O, text: &[u8]) -> Result<(), CaseRefusal> {
     write_all(out, text)?;
     Ok(())

@@ -1,4 +1,4 @@
-//! What is told of the answers of calls, in lines.
+//! The lines of the output for the answers of calls.
 use crate::events::{Refusal, Stands};
 use base_types::Memory;
 use chase_question::Question;
@@ -31,7 +31,7 @@ pub fn with_last(
     with_entries(alloc, text, schema, history, place)
 }
 
-/// Adds how an update stands.
+/// Adds the standing of an update.
 pub fn with_standing(
     alloc: Global,
     text: Vec<u8>,
@@ -45,7 +45,7 @@ pub fn with_standing(
     with_line(text, line.as_str())
 }
 
-/// Adds a question, where there is one.
+/// Adds a question, or that there is none.
 pub fn with_question(
     alloc: Global,
     mut text: Vec<u8>,
@@ -59,7 +59,7 @@ pub fn with_question(
     Ok(text)
 }
 
-/// Adds how many updates there are, how many are committed, and whether anything is left to do.
+/// Adds the numbers of updates and of committed updates, and whether anything is left to do.
 pub fn with_counts(alloc: Global, text: Vec<u8>, core: &Core<'_>) -> Result<Vec<u8>, CaseRefusal> {
     let (count, committed) = (core.count(), core.committed());
     let rest = if core.is_quiet() { "quiet" } else { "open" };
@@ -67,7 +67,7 @@ pub fn with_counts(alloc: Global, text: Vec<u8>, core: &Core<'_>) -> Result<Vec<
     with_line(text, line.as_str())
 }
 
-/// Adds what the core came to.
+/// Adds the result of the core.
 pub fn with_result(
     alloc: Global,
     mut text: Vec<u8>,
@@ -78,7 +78,7 @@ pub fn with_result(
     Ok(text)
 }
 
-// What the core came to, as text.
+// The result of the core, as text.
 fn result_of(alloc: Global, session: &Session, core: &Core<'_>) -> Result<Vec<u8>, Memory> {
     let told = core.result(alloc)?;
     result_text(alloc, session, &told)

@@ -13,7 +13,7 @@ pub enum Call {
     Ask(Asked),
 }
 
-/// A call that makes an event, or is refused.
+/// A call that makes an event, unless it is refused.
 #[derive(Drop)]
 pub enum Event {
     Step(u32),
@@ -23,8 +23,8 @@ pub enum Event {
     Admit(Update),
 }
 
-/// What is asked of a core: how an update stands, its question, how many updates there are and how many of them are committed, and
-/// what it came to.
+/// A call that asks a core: for the standing of an update, for its question, for the numbers of updates and of committed updates,
+/// or for the core's result.
 #[derive(Clone, Copy)]
 pub enum Asked {
     Standing(u32),
@@ -33,7 +33,7 @@ pub enum Asked {
     Result,
 }
 
-/// The call that a line spells. It is refused if the line spells none.
+/// The call that a line spells. An error if the line spells none.
 pub fn read_call(alloc: Global, schema: &Schema, line: &str) -> Result<Call, CaseRefusal> {
     match line {
         "drain" => return Ok(Call::Drain),

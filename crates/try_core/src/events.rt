@@ -1,4 +1,4 @@
-//! The calls that may make an event, and why they are refused. For want of memory the core is as it was, and its program ends.
+//! The calls that may make an event, and why they are refused. If memory runs out, the core is unchanged, and the program ends.
 use crate::calls::Event;
 use base_types::{Choice, Update};
 use core_engine::{
@@ -23,7 +23,7 @@ pub enum Refusal {
     Full,
 }
 
-// Makes a step; None where it was made.
+// Makes a step. The result is None if it was made.
 fn step(alloc: Global, core: &mut Core<'_>, update: u32) -> Result<Option<Refusal>, CaseRefusal> {
     match core.step(alloc, update) {
         Ok(_) => Ok(None),
@@ -33,7 +33,7 @@ fn step(alloc: Global, core: &mut Core<'_>, update: u32) -> Result<Option<Refusa
     }
 }
 
-// Delivers an answer; None where it was delivered.
+// Delivers an answer. The result is None if it was delivered.
 fn deliver(core: &mut Core<'_>, update: u32) -> Result<Option<Refusal>, CaseRefusal> {
     match core.deliver(update) {
         Ok(_) => Ok(None),
@@ -44,7 +44,7 @@ fn deliver(core: &mut Core<'_>, update: u32) -> Result<Option<Refusal>, CaseRefu
     }
 }
 
-// Answers a question; None where it was answered.
+// Answers a question. The result is None if it was answered.
 fn answer(
     alloc: Global,
     core: &mut Core<'_>,
@@ -67,7 +67,7 @@ fn not_answered(refusal: AnswerRefusal) -> Result<Option<Refusal>, CaseRefusal> 
     }
 }
 
-// Withdraws an update; None where it was withdrawn.
+// Withdraws an update. The result is None if it was withdrawn.
 fn withdraw(
     alloc: Global,
     core: &mut Core<'_>,
@@ -82,7 +82,7 @@ fn withdraw(
     }
 }
 
-// Admits an update; None where it was admitted.
+// Admits an update. The result is None if it was admitted.
 fn admit(
     alloc: Global,
     core: &mut Core<'_>,
@@ -102,7 +102,7 @@ fn not_admitted(refusal: AdmitRefusal) -> Result<Option<Refusal>, CaseRefusal> {
     }
 }
 
-/// Makes the event; None where it was made.
+/// Makes the event. The result is None if it was made.
 pub fn make(
     alloc: Global,
     core: &mut Core<'_>,
@@ -117,7 +117,7 @@ pub fn make(
     }
 }
 
-/// How an update stands, as text.
+/// A standing, which is printed as text.
 #[derive(Clone, Copy)]
 pub struct Stands(pub Standing);
 

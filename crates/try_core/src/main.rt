@@ -1,12 +1,12 @@
-//! Lists of calls on a core: each is made, and its answer is told.
+//! Makes lists of calls on a core, and prints their answers.
 //!
 //! The input has cases, one after the other. A case is a line `case STEPS RETRIES DEPS`, a session up to its line `end`, calls, one
 //! a line, and the line `done`. The update of number 3 is named `u3`. The calls that may make an event are `step u3`, `deliver u3`,
 //! `answer u3 CHOICE`, `withdraw u3`, `update LABEL CURATOR OPERATION`, which admits one more update, and `drain`; the calls that ask
 //! are `standing u3`, `question u3`, `counts` and `result`. Choices and operations are spelled as in a session.
 //!
-//! An event is told by its line of the trace, a drain by the lines of its events, a refusal by the word `refused` and its cause, and
-//! a question, and the result of a core without later updates, as the program `youtopia` tells them.
+//! An event is printed as its line of the trace, a drain as the lines of its events, and a refusal as the word `refused` and its
+//! cause. A question, and the result of a core without later updates, are printed as the program `youtopia` prints them.
 #![tactic(auto)]
 
 mod answers;
@@ -20,7 +20,7 @@ use base_devices::{Sink, StdSink};
 use std::alloc::Global;
 use try_cases::{Case, CaseRefusal, tell};
 
-// Tells what the calls of the case answer, and begins the next case.
+// Prints what the calls of the case answer, and begins the next case.
 fn finish<O: Sink>(alloc: Global, out: &mut O, case: &mut Case) -> Result<(), CaseRefusal> {
     let text = told(alloc, case)?;
     *case = Case::new(alloc);

@@ -15,7 +15,7 @@ use lang_session::Session;
 use std::alloc::Global;
 use try_cases::{Case, CaseRefusal, with_entries, with_line};
 
-/// What the calls of the case answer, in lines. It is refused if the case is not spelled as it should be.
+/// What the calls of the case answer, in lines. An error if the case is not spelled as it should be.
 pub fn told(alloc: Global, case: &Case) -> Result<Vec<u8>, CaseRefusal> {
     let (budget, settings) = case.settings()?;
     let session = case.session(alloc)?;
@@ -51,7 +51,7 @@ fn told_by(
     Ok(text)
 }
 
-// Makes the call of the line, and adds what it answers. A line that begins with `#` is no call, and told as it is.
+// Makes the call of the line, and adds what it answers. A line that begins with `#` is no call, and is added as it is.
 fn with_told(
     alloc: Global,
     text: Vec<u8>,
@@ -107,7 +107,7 @@ fn drained(
     with_entries(alloc, text, &session.schema, core.history(), before)
 }
 
-// Adds what is asked of the core.
+// Adds the core's answer to the question.
 fn told_of(
     alloc: Global,
     text: Vec<u8>,

@@ -8,14 +8,14 @@ use lang_schema::Schema;
 use std::alloc::Global;
 use try_cases::CaseRefusal;
 
-/// What a statement says of the updates: an answer to the update of a label, or one more update.
+/// What a statement says: an answer for the update with a label, or one more update.
 #[derive(Drop)]
 pub enum Said {
     Answer(Name, Choice),
     Update(Update),
 }
 
-/// What the line says. It is refused if it is no answer and no update that suits the schema.
+/// What the line says. An error if it is neither an answer nor an update that fits the schema.
 pub fn read_statement(alloc: Global, schema: &Schema, line: &str) -> Result<Said, CaseRefusal> {
     let words = Words::of(line.as_bytes())?;
     match statement_at(alloc, Section::Updates, 2, words)? {

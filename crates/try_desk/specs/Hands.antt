@@ -12,7 +12,7 @@ use Rattle.try_desk.specs.declared.hands.Hand.{Hand}
 use Rattle.try_desk.specs.declared.tables.Table.{Table}
 
 module _ {C S P : Type 0} (over : C → Ground) (history : C → List PlainEntry) (is_snapshot : S → Ground → List PlainEntry → ℕ → Type 0) (is_plan : P → Ground → List PlainEntry → ℕ → Type 0) where
-  -- The seat has this in hand: a ticket is out for it, and a plan is the ticket's.
+  -- The seat has this in hand: a ticket is out for the seat, and a plan is the ticket's.
   abbrev pub IsHeld : Desk C S P → DeskSeat → Work S P → Type 0
   IsHeld d s Free = Unit {0}
   IsHeld d s (Given t) = IsOutAt over is_snapshot d s t

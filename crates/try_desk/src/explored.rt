@@ -1,4 +1,4 @@
-//! What a desk comes to in every order of its seats.
+//! The ends of a desk in every order of its seats.
 ghost use Rattle.std.specs.Prelude.{◌≤◌};
 ghost use Rattle.def_language.specs.Validity.{IsSession};
 ghost use Rattle.lang_session.specs.Meanings.{session_of};
@@ -13,7 +13,7 @@ use std::collections::BTreeSet;
 use std::sync::Wait;
 use try_cases::{CaseRefusal, with_line};
 
-/// How many seats come in every order, for how many calls, and how many schedules are made at most.
+/// The number of seats that come in every order, the number of calls for which they do, and the greatest number of schedules.
 #[derive(Clone, Copy, Debug)]
 pub struct Extent {
     seats: usize,
@@ -22,7 +22,8 @@ pub struct Extent {
 }
 
 impl Extent {
-    /// The extent that the line `explore SEATS CALLS MOST` says; None where it begins otherwise. It is refused where its numbers are none.
+    /// The extent of the line `explore SEATS CALLS MOST`; None if the line begins otherwise. An error if the words after
+    /// `explore` are no numbers.
     pub fn read(line: &str) -> Result<Option<Extent>, CaseRefusal> {
         let mut words = line.split_whitespace();
         if words.next() != Some("explore") {
@@ -40,7 +41,7 @@ impl Extent {
     }
 }
 
-/// Makes the schedules, and tells how many there were, to how many ends they came, and these.
+/// Makes the schedules, and gives their number, the number of their ends, and the ends.
 pub fn explored<R: Wait>(
     rt: &R,
     alloc: Global,
@@ -65,7 +66,7 @@ pub fn explored<R: Wait>(
     told(alloc, made, &ends)
 }
 
-// The number of the last schedule, counted from 0, and the ends.
+// The text for the schedules, of which the last has the number `last`, from 0, and for the ends.
 fn told(alloc: Global, last: u64, ends: &BTreeSet<Vec<u8>>) -> Result<Vec<u8>, CaseRefusal> {
     let count = ends.len();
     let schedules = last.saturating_add(1);

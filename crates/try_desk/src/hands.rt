@@ -39,7 +39,7 @@ pub enum Move {
 /// What a call answered.
 #[derive(Clone, Copy, Debug, PartialEq, Eq)]
 pub enum Told {
-    /// A ticket of this number, for this update, given after so many entries.
+    /// A ticket of this number, for this update; `stamp` is the number of entries when it was given.
     Ticket {
         number: u64,
         update: u32,
@@ -49,13 +49,13 @@ pub enum Told {
     Delivered {
         update: u32,
     },
-    /// Nothing now; this is the lowest update in flight.
+    /// Nothing now; `in_flight` is the lowest update in flight.
     Idle {
         in_flight: u32,
     },
     /// Nothing any more.
     Quiet,
-    /// The plan is worked out.
+    /// The plan was made.
     Planned,
     /// The step was made, by this entry.
     Stepped {
@@ -69,7 +69,7 @@ pub enum Told {
     Back,
     /// The seat cannot make this call with what it has in hand.
     Unfit,
-    /// There was no memory for it.
+    /// Memory ran out.
     Memory,
 }
 
@@ -95,7 +95,7 @@ impl fmt::Display for Told {
 }
 
 impl<C: Core> Hand<C> {
-    /// The call that a seat makes next which gives no ticket back.
+    /// The seat's next call, if it gives no ticket back.
     pub fn due(&self) -> Move {
         match &self.work {
             Work::Free => Move::Next,
@@ -150,7 +150,7 @@ impl<C: Core> Hand<C> {
         }
     }
 
-    /// The seat; a ticket in hand is given back.
+    /// Gives the seat, after a ticket in hand is given back to the desk.
     pub fn into_seat<R: Wait>(self, rt: &R, desk: &Desk<C>) -> Seat<Board<C>>
         requires own { IsHand C.over C.history C.is_snapshot C.is_plan desk.now self }
         ensures own { IsSeatOf C.over C.history desk.now result }
@@ -204,7 +204,7 @@ fn given<C: Core>(
     (Hand { seat, work }, told)
 }
 
-// The seat with nothing in hand, and what it was told.
+// The seat with nothing in hand, and what the call answered.
 fn free<C: Core>(_desk: &Desk<C>, seat: Seat<Board<C>>, told: Told) -> (Hand<C>, Told)
     requires own { IsSeatOf C.over C.history _desk.now seat }
     ensures own { IsHand C.over C.history C.is_snapshot C.is_plan _desk.now result.0 }
@@ -214,7 +214,7 @@ fn free<C: Core>(_desk: &Desk<C>, seat: Seat<Board<C>>, told: Told) -> (Hand<C>,
     (Hand { seat, work }, told)
 }
 
-// Works out the plan of the ticket.
+// Makes the plan of the ticket.
 fn evaluate<C: Core>(
     desk: &Desk<C>,
     seat: Seat<Board<C>>,

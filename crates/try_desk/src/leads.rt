@@ -1,4 +1,4 @@
-//! Who says which seat of a desk comes next.
+//! Leads, which say which seat of a desk comes next.
 use crate::hands::{Move, Told};
 use crate::tables::Side;
 use try_cases::CaseRefusal;
@@ -10,9 +10,9 @@ pub struct Turn {
     pub call: Move,
 }
 
-/// One that says which seat makes which call next, and hears what was answered. After any `Err` it is one to be let go.
+/// A lead says which seat makes which call next, and hears what was answered. After any `Err` it is of no use any more.
 pub trait Lead {
-    /// The next call, where the seats are due to make these; None at the end.
+    /// The next call, given the call that each seat is due to make; None at the end.
     fn next(&mut self, due: [Move; 3]) -> Result<Option<Turn>, CaseRefusal>;
 
     /// Hears what the call answered.

@@ -1,12 +1,13 @@
-//! Schedules of a desk, on one thread: what the desk answers to the seats that come in a given order, and what it comes to in every order.
+//! Schedules of a desk, on one thread: what the desk answers to seats that come in a given order, and its ends in every order.
 //!
-//! The input has cases, one after the other, as those of `try_core`: a line `case STEPS RETRIES DEPS`, a session up to its line
-//! `end`, lines with calls, and the line `done`. The desk of a case has three seats, `s1`, `s2` and `s3`. Its calls are `next s1`,
-//! `evaluate s1`, `finish s1` and `back s1`; each answer is told, and at the end the trace of the core that the desk gives back.
+//! The input has cases, one after the other, in the form of `try_core`: a line `case STEPS RETRIES DEPS`, a session up to its
+//! line `end`, lines with calls, and the line `done`. The desk of a case has three seats, `s1`, `s2` and `s3`. Its calls are
+//! `next s1`, `evaluate s1`, `finish s1` and `back s1`. Each answer is printed, and at the end the trace of the core that the
+//! desk gives back.
 //!
-//! Or the one call is `explore SEATS CALLS MOST`: the first so many seats come in every order for so many calls, and then by turns
-//! until nothing is left to do. The number of schedules is told, at most so many, then that of the ends that they came to, and
-//! these: each a result and a trace.
+//! Or the only call is `explore SEATS CALLS MOST`: the first SEATS seats come in every order for CALLS calls, and then in a fixed
+//! order until nothing is left to do. The output has the number of schedules, at most MOST, the number of their ends, and the
+//! ends: each is a result and a trace.
 #![tactic(auto)]
 
 mod explored;
@@ -24,7 +25,7 @@ use std::alloc::Global;
 use std::sync::Wait;
 use try_cases::{Case, CaseRefusal, tell};
 
-// Tells what the case tells, and begins the next one.
+// Prints the output of the case, and begins the next one.
 fn finish<R: Wait, O: Sink>(
     rt: &R,
     alloc: Global,

@@ -1,19 +1,19 @@
-//! Every order in which the seats of a desk can come, one after the other.
+//! All orders in which the seats of a desk can come, one order after the other.
 use crate::hands::{Move, Told};
 use crate::leads::{Lead, Turn};
 use crate::tables::Side;
 use std::alloc::Global;
 use try_cases::CaseRefusal;
 
-// One that was taken of so many seats, counted from 0.
+// The seat that was taken, counted from 0, of `of` seats that could come.
 #[derive(Clone, Copy)]
 struct Pick {
     taken: usize,
     of: usize,
 }
 
-/// An order of the seats: one is picked at each of the first calls; at later ones it is the first that may come. A seat that was told to
-/// wait comes again once something was done. After any `Err` it is one to be let go.
+/// An order of the seats: a seat is picked at each of the first `calls` calls; at later calls the first seat comes that may. A
+/// seat that was told to wait comes again after something was done. After any `Err` the order is of no use any more.
 #[derive(Drop)]
 pub struct Path {
     seats: usize,
@@ -25,7 +25,7 @@ pub struct Path {
 }
 
 impl Path {
-    /// The first order of so many seats, from 1 to 3, which are picked at so many calls.
+    /// The first order of `seats` seats, from 1 to 3, which are picked at the first `calls` calls.
     pub fn new(alloc: Global, seats: usize, calls: usize) -> Path {
         Path {
             seats,
@@ -37,7 +37,7 @@ impl Path {
         }
     }
 
-    /// Goes on to the next order; false where this was the last.
+    /// Goes on to the next order. The result is false if this was the last.
     pub fn advance(&mut self) -> Result<bool, CaseRefusal> {
         self.place = 0;
         self.waits = [false, false, false];
@@ -51,7 +51,7 @@ impl Path {
         }
     }
 
-    // Which of so many is taken now, counted from 0.
+    // Which of `of` seats is taken now, counted from 0.
     fn pick(&mut self, of: usize) -> Result<usize, CaseRefusal> {
         let place = self.place;
         self.place = place.saturating_add(1);
@@ -74,7 +74,7 @@ impl Path {
         ]
     }
 
-    // The seat that is the picked one of those that may come.
+    // The picked one of the seats that may come.
     fn side(&self, picked: usize) -> Side {
         match (self.may_come(), picked) {
             ([true, _, _], 0) => Side::First,
@@ -84,7 +84,7 @@ impl Path {
     }
 }
 
-// Takes the picks from the last one on away, up to one of which more can be taken; that is given with the next one taken.
+// Removes picks from the end, up to the last one that can take a further seat, and gives that pick with the further seat taken.
 fn last_open(picks: &mut Vec<Pick>) -> Option<Pick> {
     while let Some(Pick { taken, of }) = picks.pop() {
         let taken = taken.saturating_add(1);
@@ -95,7 +95,7 @@ fn last_open(picks: &mut Vec<Pick>) -> Option<Pick> {
     None
 }
 
-// How many of these are true.
+// The number of seats that may come.
 fn count(may: [bool; 3]) -> usize {
     let [first, second, third] = may;
     usize::from(first) + usize::from(second) + usize::from(third)

@@ -19,14 +19,14 @@ use std::sync::Wait;
 use try_cases::{Case, CaseRefusal};
 use work_session::{Answers, Seated};
 
-/// What the case tells, in lines. It is refused if the case is not spelled as it should be.
+/// The output of the case, in lines. An error if the case is not spelled as it should be.
 pub fn told<R: Wait>(rt: &R, alloc: Global, case: &Case) -> Result<Vec<u8>, CaseRefusal> {
     let (budget, settings) = case.settings()?;
     let session = case.session(alloc)?;
     told_over(rt, alloc, &session, settings, budget, case.calls())
 }
 
-// What the lines tell of a desk over the session.
+// The output of the lines for a desk over the session.
 fn told_over<R: Wait>(
     rt: &R,
     alloc: Global,
@@ -44,7 +44,7 @@ fn told_over<R: Wait>(
     }
 }
 
-// The extent, where the one line says that the desk is to be explored.
+// The extent, if the only line is an `explore`.
 fn extent_in(lines: &[String]) -> Result<Option<Extent>, CaseRefusal> {
     match lines {
         [line] => Extent::read(line.as_str()),
@@ -52,7 +52,7 @@ fn extent_in(lines: &[String]) -> Result<Option<Extent>, CaseRefusal> {
     }
 }
 
-// What the seats are told that come as the lines say.
+// What the desk answers to seats that come as the lines say.
 fn scripted<R: Wait>(
     rt: &R,
     alloc: Global,
@@ -69,7 +69,7 @@ fn scripted<R: Wait>(
     script.told(alloc, &session.schema, core.history())
 }
 
-// The core of the session, as the desk over it gives it back once its seats came as the lead says.
+// The core of the session, as the desk over it gives it back after its seats came as the lead says.
 fn ended<'s, R: Wait, L: Lead>(
     rt: &R,
     alloc: Global,
@@ -95,7 +95,7 @@ fn ended<'s, R: Wait, L: Lead>(
     }
 }
 
-/// What the core of the session came to once its seats came as the lead says, and its trace.
+/// The result of the core of the session after its seats came as the lead says, and its trace.
 pub fn end_of<R: Wait, L: Lead>(
     rt: &R,
     alloc: Global,
@@ -111,7 +111,7 @@ pub fn end_of<R: Wait, L: Lead>(
     end_text(alloc, session, &core)
 }
 
-// What the core came to, and its trace.
+// The result of the core, and its trace.
 fn end_text(alloc: Global, session: &Session, core: &Core<'_>) -> Result<Vec<u8>, CaseRefusal> {
     let mut text = result_of(alloc, session, core)?;
     let trace = trace_text(alloc, &session.schema, core.history())?;
@@ -119,7 +119,7 @@ fn end_text(alloc: Global, session: &Session, core: &Core<'_>) -> Result<Vec<u8>
     Ok(text)
 }
 
-// What the core came to.
+// The result of the core.
 fn result_of(alloc: Global, session: &Session, core: &Core<'_>) -> Result<Vec<u8>, Memory> {
     let told = core.result(alloc)?;
     result_text(alloc, session, &told)

@@ -10,11 +10,11 @@ use std::sync::Wait;
 use try_cases::CaseRefusal;
 use work_desk::{Core, Desk};
 
-// No desk of a session has so many calls, if every seat is let go on.
+// More calls than any desk of a session has, if every seat may go on.
 const MOST_CALLS: u32 = 1_000_000;
 
-/// Has the seats of a desk over the core come as the lead says, and gives the core. It is refused for want of memory, and where the lead
-/// refuses or has no end.
+/// Lets the seats of a desk over the core come as the lead says, and gives the core. An error if memory runs out, or if the lead
+/// has an error or no end.
 pub fn play<R: Wait, C: Core, L: Lead>(
     rt: &R,
     alloc: Global,

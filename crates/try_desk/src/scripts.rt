@@ -1,4 +1,4 @@
-//! Calls of seats, one a line, and what is told of them.
+//! Calls of seats, one a line, and their answers.
 use crate::hands::{Move, Told};
 use crate::leads::{Lead, Turn};
 use crate::tables::Side;
@@ -7,8 +7,8 @@ use lang_schema::Schema;
 use std::alloc::Global;
 use try_cases::{CaseRefusal, number_of, with_entries, with_line};
 
-/// Calls in their order, how many of them were made, and what they answered. Where a call finds no memory its seat makes once more
-/// what is due, up to that call: what was refused has changed nothing, so that the answers are those of ample memory.
+/// Calls in order, how many of them were made, and what they answered. If memory runs out in a call, its seat makes what is due
+/// once more, up to that call. The failed call changed nothing, so the answers are the same as with ample memory.
 #[derive(Drop)]
 pub struct Script {
     turns: Vec<Turn>,
@@ -17,7 +17,7 @@ pub struct Script {
     is_again: bool,
 }
 
-/// The script of these lines. It is refused if a line spells no call.
+/// The script of these lines. An error if a line spells no call.
 pub fn read_script(alloc: Global, lines: &[String]) -> Result<Script, CaseRefusal> {
     let mut turns = Vec::new(alloc);
     for line in lines {
@@ -75,7 +75,7 @@ impl Lead for Script {
 }
 
 impl Script {
-    // The call that is to be made now.
+    // The call that is due now.
     fn turn(&self) -> Option<Turn> {
         self.turns.as_slice().get(self.place).copied()
     }
@@ -88,7 +88,7 @@ impl Script {
         }
     }
 
-    // Has the call made once more. It is refused where it was made so already.
+    // Lets the call be made once more. An error if it was already made once more.
     fn begin_again(&mut self) -> Result<(), CaseRefusal> {
         if self.is_again {
             return Err(CaseRefusal::Memory);
@@ -97,7 +97,7 @@ impl Script {
         Ok(())
     }
 
-    /// What the calls answered, and then the entries.
+    /// The text of what the calls answered, and then of the entries.
     pub fn told(
         &self,
         alloc: Global,

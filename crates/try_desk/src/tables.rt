@@ -28,7 +28,7 @@ impl Side {
         }
     }
 
-    /// The seats that were marked, and this one.
+    /// The marked seats, with this one marked too.
     pub fn with(self, marked: [bool; 3]) -> [bool; 3] {
         let [first, second, third] = marked;
         match self {
@@ -47,7 +47,7 @@ pub struct Table<C: Core> {
 }
 
 impl<C: Core> Table<C> {
-    /// The seats, none of which has anything in hand.
+    /// The table of the seats, with nothing in hand.
     pub fn of(_desk: &Desk<C>, mut seats: Vec<Seat<Board<C>>>) -> Table<C>
         requires three { length seats.items ≡ 3 }
         requires own { All (IsSeatOf C.over C.history _desk.now) seats.items }
@@ -73,7 +73,7 @@ impl<C: Core> Table<C> {
         }
     }
 
-    /// What each seat makes next which gives no ticket back.
+    /// Each seat's next call, if it gives no ticket back.
     pub fn due(&self) -> [Move; 3] {
         [self.first.due(), self.second.due(), self.third.due()]
     }
@@ -126,7 +126,7 @@ impl<C: Core> Table<C> {
         }
     }
 
-    /// The seats, in `room`; tickets in hand are given back.
+    /// The seats, in `room`, after tickets in hand are given back to the desk.
     pub fn into_seats<R: Wait>(
         self,
         rt: &R,

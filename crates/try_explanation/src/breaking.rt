@@ -4,24 +4,24 @@ use run_explain::{Explanation, How};
 use std::alloc::Global;
 use std::mem;
 
-/// What is done to the reason at a place.
+/// What is done to one reason of an explanation.
 #[derive(Clone, Copy, Debug)]
 pub(crate) enum Break {
-    /// It is dropped.
+    /// The reason is dropped.
     Dropped,
-    /// It is there twice.
+    /// The reason is there twice.
     Doubled,
-    /// It changes places with the next one.
+    /// The reason changes places with the next one.
     Moved,
-    /// It has another step.
+    /// The reason has another step.
     Step,
-    /// It has another mapping.
+    /// The reason has another mapping.
     Mapping,
-    /// Its image lacks the last tuple.
+    /// The reason's image lacks its last tuple.
     Image,
 }
 
-/// All of them, with what each is called.
+/// All ways to break a reason, with their names.
 pub(crate) const BREAKS: [(Break, &str); 6] = [
     (Break::Dropped, "dropped"),
     (Break::Doubled, "doubled"),
@@ -31,7 +31,8 @@ pub(crate) const BREAKS: [(Break, &str); 6] = [
     (Break::Image, "image"),
 ];
 
-/// The explanation with the reason at the place broken; `same` is the same explanation. What has no such part stays as it is.
+/// The explanation with the reason at the place broken; `same` is a copy of the explanation. A reason without the part that is
+/// broken stays as it is.
 pub(crate) fn broken(
     explanation: Explanation,
     same: Explanation,
@@ -63,7 +64,7 @@ pub(crate) fn broken(
     Ok(Explanation::from_vec(reasons))
 }
 
-// With another step, mapping or image, where it has one.
+// The reason with another step, mapping or image, if it has one.
 fn changed(how: How, way: Break) -> How {
     match how {
         How::Base => How::Base,

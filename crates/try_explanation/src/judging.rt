@@ -27,7 +27,7 @@ pub(crate) fn table(alloc: Global, session: &Session) -> Result<String, Memory>
     Ok(text)
 }
 
-// Tells of the explanation of a tuple, whole and then broken.
+// Adds the lines for the explanation of a tuple, whole and then broken.
 fn tell(
     alloc: Global,
     text: &mut String,
@@ -45,7 +45,7 @@ fn tell(
     Ok(())
 }
 
-// Tells of it as it is, and gives how many reasons it has.
+// Adds the line for the whole explanation, and gives its number of reasons.
 fn tell_whole(
     alloc: Global,
     text: &mut String,
@@ -64,7 +64,7 @@ fn tell_whole(
     Ok(whole.len())
 }
 
-// Tells of it with the reason at the place broken, in each way.
+// Adds the lines for the explanation with the reason at the place broken, one for each way.
 fn tell_broken(
     alloc: Global,
     text: &mut String,
@@ -87,7 +87,7 @@ fn said(taken: bool) -> &'static str {
     if taken { "taken" } else { "refused" }
 }
 
-// Whether the checker takes the tuple's explanation with the reason at the place broken.
+// Whether the checker accepts the tuple's explanation with the reason at the place broken.
 fn is_taken(
     alloc: Global,
     session: &Session,

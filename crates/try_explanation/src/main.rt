@@ -1,8 +1,8 @@
 //! Explanations, whole and broken, and what the checker says of them.
 //!
-//! The input has sessions, one behind the other. Of each, for each tuple that its serial run leaves, by its number, a line of the
-//! output tells whether the checker takes the explanation of the tuple, and a line for each of its reasons and each way to
-//! break that one.
+//! The input has sessions, one after the other. For each tuple that a session's serial run leaves, by its number, one line of the
+//! output says whether the checker accepts the tuple's explanation. A further line follows for each reason and each way to break
+//! it.
 #![tactic(auto)]
 
 ghost use Rattle.std.specs.Prelude.{◌≤◌, length};
@@ -20,7 +20,7 @@ use std::alloc::Global;
 // The most bytes that a session here may have.
 const LIMIT: usize = 65_536;
 
-// What is told of a session, if the bytes spell one whose base meets its mappings.
+// The output for a session, if the bytes spell one whose base meets its mappings; otherwise empty.
 fn told(alloc: Global, text: &[u8]) -> Result<String, Memory> {
     if text.len() > LIMIT {
         return Ok(String::new(alloc));
@@ -28,7 +28,7 @@ fn told(alloc: Global, text: &[u8]) -> Result<String, Memory> {
     told_of(alloc, text)
 }
 
-// What is told of a session of at most so many bytes.
+// The output for a session of at most `LIMIT` bytes.
 fn told_of(alloc: Global, text: &[u8]) -> Result<String, Memory>
     requires short { length text.now ≤ 65536 }
 {

@@ -13,7 +13,7 @@ made_of i = record { entry = i.event; maker = Some i.maker }
 abbrev pub made_all : List Item → List (Made Event)
 made_all items = map made_of items
 
--- an event as a number of tickets given, and of tickets returned
+-- how many tickets an event gives; then, how many it returns
 abbrev pub tickets_out : Event → ℕ
 tickets_out (Gave n) = 1
 tickets_out (Returned n) = 0
@@ -22,14 +22,14 @@ abbrev pub tickets_back : Event → ℕ
 tickets_back (Gave n) = 0
 tickets_back (Returned n) = 1
 
--- how many tickets the seat j was given, and returned
+-- how many tickets the seat j was given; then, how many it returned
 abbrev pub given_to : ℕ → List (Made Event) → ℕ
 given_to j history = sum_made_by tickets_out j history
 
 abbrev pub returned_by : ℕ → List (Made Event) → ℕ
 returned_by j history = sum_made_by tickets_back j history
 
--- how often the seat j is among these
+-- how often the seat j is among these seats
 abbrev pub count_for : ℕ → List ℕ → ℕ
 count_for j seats = sum_by (λ m. weight_for j (Some m) 1) seats
 

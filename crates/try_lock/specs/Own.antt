@@ -1,4 +1,4 @@
--- What the desk's seats, tickets and plans are.
+-- When a seat, a ticket or a plan is the desk's.
 use Rattle.std.specs.Prelude.{◌≡◌, ℕ, ◌*◌, ◌%◌, ◌^◌}
 use Rattle.work_lock.specs.declared.seat.Seat.{Seat}
 use Rattle.work_lock.specs.Lock.{lock_id}

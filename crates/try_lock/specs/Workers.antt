@@ -13,7 +13,7 @@ use Rattle.try_lock.specs.Own.{Owns}
 abbrev pub seats_of : List Worker → List (Seat Board Event)
 seats_of workers = map (λ w. w.seat) workers
 
--- the worker has its seat still, which is the desk's own and has seen no less
+-- the worker still has its seat, which is one of the desk's and has seen at least as much as before
 pub record HasAttended (desk : Desk) (before after : Worker) : Type 0 where
   pub place : place_of after.seat ≡ place_of before.seat
   pub owns : Owns desk after.seat

@@ -1,4 +1,4 @@
-// The board: what lies behind the lock.
+// The board: the value inside the lock.
 ghost use Rattle.std.specs.Prelude.{◌≡◌, ◌+◌, ◌<◌, ◌≤◌, ℕ, IfOk, IfSome, IfNone, slice_index, length, vec_len, vec_capacity};
 ghost use Rattle.def_record.specs.Makers.{Extends};
 ghost use Rattle.work_loop.specs.Offers.{IfTicket, IfQuiet, tickets_in, tickets_spent};
@@ -23,7 +23,8 @@ pub struct Item {
     pub maker: u64,
 }
 
-/// The history, how many tickets there are and how many were given, and for each ticket that is out the seat that holds it. There is room for the return of each.
+/// The history, how many tickets there are and how many were given, and the seat that holds each ticket that is out. There is
+/// room for the return of each.
 #[derive(Drop)]
 pub struct Board {
     pub items: Vec<Item>,
@@ -35,7 +36,7 @@ pub struct Board {
         ≡ returned_by j (made_all items.items) + count_for j holders.items },
 }
 
-/// A ticket. It has to be spent.
+/// A ticket, which must be spent.
 pub struct Ticket {
     pub(crate) number: u64,
 }
@@ -51,7 +52,7 @@ impl Grows for Board {
 }
 
 impl Board {
-    /// A board with this many tickets to give.
+    /// A board with `tickets` tickets to give.
     pub fn new(alloc: Global, tickets: u64) -> Board {
         Board {
             items: Vec::new(alloc),
@@ -61,7 +62,7 @@ impl Board {
         }
     }
 
-    /// The next ticket for this seat; with none left, whether one is out.
+    /// The next ticket for this seat; if none is left, whether one is out.
     pub fn offer(&mut self, maker: u64) -> Result<Offer<Ticket>, Memory>
         ensures extends { Extends maker (made_all self.old.items.items)
             (made_all self.new.items.items) }
@@ -83,7 +84,7 @@ impl Board {
         }
     }
 
-    // One more ticket, with room for its return.
+    // Gives one more ticket, with room for its return.
     fn give(&mut self, maker: u64) -> Result<Ticket, Memory>
         requires left { self.old.given < self.old.tickets }
         ensures extends { Extends maker (made_all self.old.items.items)
@@ -127,7 +128,7 @@ impl Board {
     }
 }
 
-// Where the seat first stands among the holders.
+// The first place of the seat among the holders.
 fn place_of(holders: &[u64], maker: u64) -> Option<usize>
     ensures found { IfSome result (λ i.
         (i < length holders.now) × (slice_index holders.now i ≡ maker)) }

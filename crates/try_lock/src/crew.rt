@@ -14,7 +14,7 @@ use std::thread::Threads;
 use std::time::Clock;
 use work_lock::{Seat, new};
 
-// Lets each worker attend in a thread of its own.
+// Lets each worker do its duty in a thread of its own.
 fn attend_all<R: Threads + Wait + Clock + Sync, D: Duty + Sync>(
     rt: &R,
     desk: &Desk,
@@ -66,7 +66,7 @@ fn dismiss(workers: Vec<Worker>, seats: &mut Vec<Seat<Board>>) -> bool
     all
 }
 
-/// Lets as many workers as seats do their duty at a new board, and gives the board. None comes for want of memory alone.
+/// Lets `seats` workers do their duty at a new board, and gives the board. The result is None only if memory runs out.
 pub fn run<R: Threads + Wait + Clock + Sync, D: Duty + Sync>(
     rt: &R,
     alloc: Global,

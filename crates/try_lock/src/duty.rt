@@ -5,7 +5,7 @@ use std::sync::Wait;
 use std::time::Clock;
 use work_loop::{Gate, Places, work};
 
-/// A worker's duty. Whatever it is, the seat stays the desk's own, in its place, and has seen no less.
+/// A worker's duty. Whatever it is, the seat stays one of the desk's, keeps its place, and has seen at least as much as before.
 pub trait Duty {
     ghost use Rattle.try_lock.specs.Own.{Owns};
     ghost use Rattle.try_lock.specs.Workers.{HasAttended};
@@ -15,7 +15,7 @@ pub trait Duty {
         ensures attended { HasAttended desk.now worker.old worker.new };
 }
 
-/// To work within a gate until nothing is left to do.
+/// The duty to work, with a gate, until nothing is left to do.
 #[derive(Drop)]
 pub struct Work<G: Gate> {
     pub gate: G,
@@ -28,7 +28,7 @@ impl<G: Gate> Duty for Work<G> {
     }
 }
 
-/// To open and close this many turns, with nothing done in them. It measures the lock.
+/// The duty to open and close `count` empty turns, to measure the lock.
 #[derive(Drop)]
 pub struct Turns {
     pub count: u64,

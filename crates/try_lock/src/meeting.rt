@@ -4,7 +4,7 @@ use crossbeam_utils::Backoff;
 use std::sync::atomic::{AtomicBool, Ordering};
 use work_loop::Gate;
 
-// For how many turns the gate holds a ticket.
+// The number of turns for which the gate holds a ticket.
 const TURNS: u32 = 1_000_000;
 
 /// A gate that makes two workers meet: it holds ticket 1 until ticket 2 is finished, or for a million turns.
@@ -15,7 +15,7 @@ pub(crate) struct MeetGate {
 }
 
 impl MeetGate {
-    /// A gate that no ticket has passed.
+    /// A gate that no ticket has passed yet.
     pub(crate) fn new() -> MeetGate {
         MeetGate {
             second: AtomicBool::new(false),

@@ -1,4 +1,4 @@
-//! Appends to a log in a file, reads it, folds it: a program to be killed at any moment.
+//! Appends to a log in a file, reads it and folds it. Tests kill this program at any moment.
 #![tactic(auto)]
 
 use base_devices::{Lines, NextLine, StdSource};
@@ -10,7 +10,7 @@ use ws_log::{
     Access, Damage, Fault, Opened, Reopened, RestingLog, create, fold, open, reason, reopen,
 };
 
-// Why it stopped.
+// Why the program stopped.
 #[derive(Debug, Drop)]
 enum Stop {
     Io(io::Error),
@@ -55,7 +55,7 @@ fn append(rt: &HostRuntime, path: &str, text: &str) -> Result<(), Stop> {
     Ok(())
 }
 
-// Appends numbered texts, and tells the number of each that is acknowledged.
+// Appends numbered texts, and prints the log's count after each acknowledged one.
 fn go_on(rt: &HostRuntime, path: &str, count: u64) -> Result<(), Stop> {
     let mut log = opened(rt, path, Access::Change)?.log;
     println!(rt; "{}", log.count())?;
@@ -81,7 +81,7 @@ fn folded(rt: &HostRuntime, path: &str, head: &str) -> Result<(), Stop> {
     Ok(())
 }
 
-// Stays, and reads on at each line of the input: an empty one looks, another one is appended.
+// Stays, and reads on at each line of the input: an empty line only reads, another line is appended.
 fn stay(rt: &HostRuntime, path: &str) -> Result<(), Stop> {
     let mut resting = opened(rt, path, Access::Read)?.log.release()?;
     let mut source = StdSource::new(rt.stdin());
@@ -95,7 +95,7 @@ fn stay(rt: &HostRuntime, path: &str) -> Result<(), Stop> {
     Ok(())
 }
 
-// One line of who stays: what is new is told, and the text appended.
+// One line of the input while the program stays: prints what is new, and appends the text.
 fn turn(
     rt: &HostRuntime,
     path: &str,
@@ -145,7 +145,7 @@ fn run(rt: &HostRuntime) -> Result<(), Stop> {
     }
 }
 
-// Tells why it stopped, in the words of a workspace.
+// Prints why the program stopped, in the words of a workspace.
 fn tell(rt: &HostRuntime, stop: Stop) -> Result<(), Stop> {
     match stop {
         Stop::Log(Fault::Damaged(Damage::At(place))) => eprintln!(rt; "damaged at {place}")?,

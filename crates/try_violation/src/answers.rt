@@ -10,8 +10,8 @@ use base_types::{Facts, Mapping, Memory, TupleList, WriteList};
 use chase_violation::{Scope, first_violation};
 use std::alloc::Global;
 
-/// The least image of a violation among all, among those that own writes caused forward, and among those that they
-/// caused backward; None where there is none.
+/// The least image of a violation among all violations, among those that own writes caused forward, and among those that they
+/// caused backward; None if there is no such violation.
 #[derive(Debug, Drop, PartialEq)]
 pub struct Answers {
     pub all: Option<TupleList>,

@@ -7,7 +7,7 @@ use base_types::{List, Mapping, Memory, TryCopy, Write, WriteList};
 use set_facts::{IndexedFacts, PlainFacts};
 use std::alloc::Global;
 
-/// A mapping, the tuples before the own writes, and the own writes in turn.
+/// A mapping, the tuples before the own writes, and the own writes in order.
 #[derive(Drop)]
 pub struct Case {
     pub mapping: Mapping,
@@ -16,7 +16,7 @@ pub struct Case {
 }
 
 impl Case {
-    /// The case that has nothing yet.
+    /// An empty case.
     pub fn new(alloc: Global) -> Case {
         let mapping = Mapping {
             name: List::new(alloc),
@@ -34,7 +34,7 @@ impl Case {
     }
 }
 
-// Makes the write in the plain set. If it is refused, the set is as it was.
+// Makes the write in the plain set. After an error the set is unchanged.
 fn write_plain(alloc: Global, facts: &mut PlainFacts, write: &Write) -> Result<(), Memory>
     ensures ok { OnOk result (facts.new ≡ change facts.old (change_of write.now)) }
     ensures err { OnErr result (facts.new ≡ facts.old) }
@@ -50,7 +50,7 @@ fn write_plain(alloc: Global, facts: &mut PlainFacts, write: &Write) -> Result<(
     Ok(())
 }
 
-// Makes the write in the indexed set. If it is refused, the set is as it was.
+// Makes the write in the indexed set. After an error the set is unchanged.
 fn write_indexed(alloc: Global, facts: &mut IndexedFacts, write: &Write) -> Result<(), Memory>
     ensures ok { OnOk result (facts.new ≡ change facts.old (change_of write.now)) }
     ensures err { OnErr result (facts.new ≡ facts.old) }
@@ -66,7 +66,7 @@ fn write_indexed(alloc: Global, facts: &mut IndexedFacts, write: &Write) -> Resu
     Ok(())
 }
 
-// Makes the writes in the plain set, in turn.
+// Makes the writes in the plain set, in order.
 fn write_all_plain(alloc: Global, facts: &mut PlainFacts, writes: &[Write]) -> Result<(), Memory> {
     for write in writes {
         write_plain(alloc, facts, write)?;
@@ -74,7 +74,7 @@ fn write_all_plain(alloc: Global, facts: &mut PlainFacts, writes: &[Write]) -> R
     Ok(())
 }
 
-// Makes the writes in the indexed set, in turn.
+// Makes the writes in the indexed set, in order.
 fn write_all_indexed(
     alloc: Global,
     facts: &mut IndexedFacts,

@@ -4,7 +4,7 @@ use crate::refusals::CaseRefusal;
 use base_types::{Atom, List, Null, Term, Tuple, Value, Word, Write};
 use std::alloc::Global;
 
-/// The case that a line spells. It is refused if an item is not spelled as it should be.
+/// The case that a line spells. An error if an item is not spelled as it should be.
 pub fn read_case(alloc: Global, line: &str) -> Result<Case, CaseRefusal> {
     let mut case = Case::new(alloc);
     for item in line.split(';') {

@@ -7,7 +7,7 @@ use thiserror::Error;
 /// Why a case is refused.
 #[derive(Clone, Copy, Debug, PartialEq, Eq, Error)]
 pub enum CaseRefusal {
-    /// An item of its line is not spelled as it should be.
+    /// An item of the line is not spelled as it should be.
     #[error("an item is not spelled as it should be")]
     Spelling,
     /// There was not enough memory.
@@ -39,7 +39,7 @@ impl<T: Drop> From<AllocFailed<T>> for CaseRefusal {
     }
 }
 
-/// A call that hands its argument back beside `Memory`, where the caller has no more use for it.
+/// For a call that gives its argument back with `Memory`, if the caller has no more use for it.
 impl<T: Drop> From<(T, Memory)> for CaseRefusal {
     fn from(_: (T, Memory)) -> CaseRefusal {
         CaseRefusal::Memory

@@ -10,7 +10,8 @@ use Rattle.work_lock.specs.declared.seat.Turn.{Turn}
 use Rattle.def_record.specs.Makers.{FollowsAmong}
 
 -- A seat's place, which no call changes: its lock and its number.
--- It also says how many seats the lock has and how many were joined at its end. Only the first seat keeps these two; at any other they are 0.
+-- It also says how many seats the lock has and how many were joined at its end. Only the first seat keeps these two; at any other
+-- they are 0.
 pub record Place : Type 0 where
   pub lock : TableId
   pub number : ℕ

@@ -33,7 +33,8 @@ impl<V: Grows> StampLock<V> {
     ghost use Rattle.work_lock.specs.Seats.{lock_of, number_of, place_of, seen_of, IsAtRest, IsTurnOf};
     ghost use Rattle.work_lock.specs.Within.{IsSameInTable, WaitsFor, IsServed};
 
-    /// Waits for a turn, and takes the value out. The value's history goes on from what the seat had seen, by entries that this seat did not make.
+    /// Waits for a turn, and takes the value out. The value's history goes on from what the seat had seen, by entries that this
+    /// seat did not make.
     pub fn open<R: Wait>(&self, rt: &R, seat: &mut Seat<V>) -> (Turn<V>, V)
         requires lock { lock_of seat.old ≡ lock_id self.now }
         requires rest { IsAtRest seat.old }

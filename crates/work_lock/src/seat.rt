@@ -5,7 +5,8 @@ use crate::history::Grows;
 use crate::view::View;
 use std::snapshot::Snapshot;
 
-/// A place at a lock, from which one thread at a time takes turns. It has a number, and it keeps, for contracts, the history that it has seen.
+/// A place at a lock, from which one thread at a time takes turns. It has a number, and it keeps, for contracts, the history that
+/// it has seen.
 pub struct Seat<V: Grows> {
     pub(crate) at: atomic_table::Seat<Option<V>, View<V::Entry>>,
     pub(crate) number: u64,

@@ -34,7 +34,8 @@ abbrev pub queries_next : (g : Ground) → List PlainEntry → ℕ → Update (m
 queries_next g H k u =
     map (λ r. r.query) (step_log (machine g) u.operation (below (machine g) g.base (updates_after g H) k) u.answers u.state)
 
--- After the first n entries update k + 1 was u, it was ready, and its next step asks the queries of these reads. No later entry is a step or a withdrawal of it.
+-- After the first n entries update k + 1 was u, it was ready, and its next step asks the queries of these reads. No later entry
+-- is a step or a withdrawal of it.
 pub record WasPlanned (g : Ground) (H : List PlainEntry) (n k : ℕ) (u : Update (machine g)) (reads : List Read) : Type 0 where
   pub stamped : n ≤ length H
   pub ready : IsReadyAt (machine g) g.settings (updates_after g (take n H)) k u

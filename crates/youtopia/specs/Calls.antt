@@ -1,4 +1,4 @@
--- What one call of the program does between its words, its input and its two outputs.
+-- What one call of the program does with its words, its input and its two outputs.
 use Rattle.std.specs.Prelude.{◌≡◌, ◌⊎◌, ℕ, Bool, true, false, List, Some}
 use Rattle.std.specs.Io.KnownBytes.{Keeps}
 use Rattle.clap.specs.Words.{Text as Letters}
@@ -36,7 +36,7 @@ use Rattle.cmd_words.specs.declared.reading.Request.TheVariants.{Command, Help, 
 use Rattle.youtopia.specs.declared.workers.ByWorkers.{ByWorkers}
 use Rattle.youtopia.specs.declared.workers.ByWorkers.TheVariants as workers
 
--- what tells a fixed text makes of any input
+-- the command that prints a fixed text, whatever its input
 abbrev pub telling : List ℕ → Meaning
 telling text input output = output ≡ Text Ended text
 
@@ -44,15 +44,15 @@ telling text input output = output ≡ Text Ended text
 abbrev pub Unread : Change → Type 0
 Unread source = Keeps source.bytes source.bytes_after × (source.faults ≡ source.faults_after)
 
--- nothing was done for this reason, which `err` was told: the source was not read, and `out` took nothing
+-- nothing was done, for this reason: the source was not read, `out` took nothing, and `err` took the line of the failure
 abbrev pub DoesNothing : Failure → Change → Change → Change → Type 0
 DoesNothing failure source out err = Unread source × TakesNothing out × Tells err (line_of failure)
 
--- the option `query` spells the query
+-- the option `query` spells the query q
 abbrev pub AsksFor : Options → WrittenAsk → Type 0
 AsksFor options q = (text : List ℕ) × (text_of options.query ≡ Some text) × SpellsAsk text q
 
--- it spells none
+-- the option `query` spells no query
 abbrev pub LacksQuery : Options → Type 0
 LacksQuery options = (q : WrittenAsk) → AsksFor options q → ⊥
 
@@ -60,7 +60,7 @@ LacksQuery options = (q : WrittenAsk) → AsksFor options q → ⊥
 abbrev pub AsksWhy : Options → WrittenFact → Type 0
 AsksWhy options fact = (text : List ℕ) × (text_of options.tuple ≡ Some text) × SpellsFact text fact
 
--- it spells none
+-- the option `tuple` spells no fact
 abbrev pub LacksFact : Options → Type 0
 LacksFact options = (fact : WrittenFact) → AsksWhy options fact → ⊥
 
@@ -89,12 +89,12 @@ makes Recover options = recovering
 makes Explain options = λ input output. (fact : WrittenFact) × AsksWhy options fact × on_session (explained options.steps fact) input output
 makes Ask options = λ input output. (q : WrittenAsk) × AsksFor options q × on_session (asked options.steps q) input output
 
--- the row of a status; unless what the command needs is given, the source was not read, and `out` took nothing
+-- the row of a status; if what the command needs is not given, the source was not read, and `out` took nothing
 abbrev pub RowOfGiven : Type 0 → Status → Meaning → Change → Change → Change → Type 0
 RowOfGiven Given status means source out err = Row status means source out err × (Given ⊎ (Unread source × TakesNothing out))
 
--- what a command with its options does: the row of the status holds; `ask` without a query and `explain` without a fact are refused as wrong words are,
--- and read nothing; `drill` leaves the input alone
+-- what a command with its options does: the row of the status holds; `ask` without a query and `explain` without a fact are
+-- refused like wrong words, and read nothing; `drill` leaves the input alone
 abbrev pub Does : CommandName → Options → Status → Change → Change → Change → Type 0
 Does Ask options status source out err =
     ((status ≡ Usage) × LacksQuery options × DoesNothing failures.Usage source out err)
@@ -105,26 +105,26 @@ Does Explain options status source out err =
 Does Drill options status source out err = Row status (makes Drill options) no_input out err × Unread source
 Does command options status source out err = Row status (makes command options) source out err
 
--- what was asked for is done; help and the version leave the input alone
+-- what the request asks for is done; help and the version leave the input alone
 abbrev pub Performs : Request → Status → Change → Change → Change → Type 0
 Performs (Command options) status source out err = Does options.command options status source out err
 Performs Help status source out err = Row status (telling HELP.now) no_input out err × Unread source
 Performs Version status source out err = Row status (telling VERSION_LINE.now) no_input out err × Unread source
 
--- what a command does without threads: the same, but that `run` and `drill` are refused as wrong words are
+-- what a command does without threads: what it does with them, but `run` and `drill` are refused like wrong words
 abbrev pub DoesPlainly : CommandName → Options → Status → Change → Change → Change → Type 0
 DoesPlainly Run options status source out err = (status ≡ Usage) × DoesNothing failures.Usage source out err
 DoesPlainly Drill options status source out err = (status ≡ Usage) × DoesNothing failures.Usage source out err
 DoesPlainly command options status source out err = Does command options status source out err
 
--- what was asked for is done without threads
+-- what the request asks for is done without threads
 abbrev pub PerformsPlainly : Request → Status → Change → Change → Change → Type 0
 PerformsPlainly (Command options) status source out err = DoesPlainly options.command options status source out err
 PerformsPlainly Help status source out err = Performs Help status source out err
 PerformsPlainly Version status source out err = Performs Version status source out err
 
--- The words are refused, and that is status 2; or they ask for something, and that is done as is said here. Memory may have
--- been wanting for the words.
+-- The words are refused, with status 2; or memory runs out while they are read; or they ask for something, which is done as
+-- `performs` says.
 abbrev pub CallsBy : (Request → Status → Change → Change → Change → Type 0) → List Letters → Status → Change → Change → Change → Type 0
 CallsBy performs words status source out err =
     ((is_refused words ≡ true) × (status ≡ Usage) × DoesNothing failures.Usage source out err)
@@ -135,17 +135,17 @@ CallsBy performs words status source out err =
 abbrev pub Calls : List Letters → Status → Change → Change → Change → Type 0
 Calls = CallsBy Performs
 
--- a call of its part that has no threads
+-- a call of the program's part without threads
 abbrev pub CallsPlainly : List Letters → Status → Change → Change → Change → Type 0
 CallsPlainly = CallsBy PerformsPlainly
 
--- whether the command is done by workers
+-- whether the command needs workers
 abbrev pub is_by_workers : CommandName → Bool
 is_by_workers Run = true
 is_by_workers Drill = true
 is_by_workers command = false
 
--- the words ask for this command, which has these options
+-- the words ask for this command, with these options
 pub record AskFor (words : List Letters) (command : CommandName) (options : Options) : Type 0 where
   pub says : Answers words (Command options)
   pub named : options.command ≡ command
@@ -156,7 +156,7 @@ abbrev pub AskForWork : List Letters → ByWorkers → Type 0
 AskForWork words (workers.Run options) = AskFor words Run options
 AskForWork words (workers.Drill options) = AskFor words Drill options
 
--- the words ask for no command that is done by workers
+-- the words ask for no command that needs workers
 abbrev pub AskForNoWork : List Letters → Type 0
 AskForNoWork words = (options : Options) → Answers words (Command options) → is_by_workers options.command ≡ false
 
@@ -165,12 +165,12 @@ abbrev pub IsNamedBy : Options → ByWorkers → Type 0
 IsNamedBy options (workers.Run same) = (same ≡ options) × (options.command ≡ Run)
 IsNamedBy options (workers.Drill same) = (same ≡ options) × (options.command ≡ Drill)
 
--- the numbers of its options lie in their ranges
+-- the numbers of the work's options lie in their ranges
 abbrev pub HasRangesIn : ByWorkers → Type 0
 HasRangesIn (workers.Run options) = AreInRange options
 HasRangesIn (workers.Drill options) = AreInRange options
 
--- what the work is done as
+-- what is done for the work: what its command does with its options
 abbrev pub DoesWork : ByWorkers → Status → Change → Change → Change → Type 0
 DoesWork (workers.Run options) = Does Run options
 DoesWork (workers.Drill options) = Does Drill options

@@ -1,4 +1,4 @@
--- What one call of the program promises beside its rows: its status where nothing fails, and what its runs leave.
+-- What one call of the program promises beside its rows: its status if nothing fails, and what its runs leave.
 use Rattle.std.specs.Prelude.{◌≡◌, ◌⊎◌, ◌≤◌, ◌++◌, ℕ, List, Some, None, length}
 use Rattle.clap.specs.Words.{Text as Letters}
 use Rattle.run_ask.specs.Written.{WrittenAsk}
@@ -39,31 +39,31 @@ due (Command options) = makes options.command options
 due Help = telling HELP.now
 due Version = telling VERSION_LINE.now
 
--- what a command reads: the source, and `drill` nothing
+-- what a command reads: the source; but `drill` reads nothing
 abbrev pub read_for : CommandName → Change → Change
 read_for Drill source = no_input
 read_for command source = source
 
--- what a request reads: a command that, help and the version nothing
+-- what a request reads: what its command reads; help and the version read nothing
 abbrev pub read_by : Request → Change → Change
 read_by (Command options) source = read_for options.command source
 read_by Help source = no_input
 read_by Version source = no_input
 
--- nothing fails: what is read has this input, no longer than an input may be, and neither that nor `out` fails
+-- nothing fails: the source has this input, no longer than an input may be, and neither the source nor `out` fails
 pub record NothingFails (input : List ℕ) (source out : Change) : Type 0 where
   pub held : source.bytes ≡ Some input
   pub short : length input ≤ INPUT_LIMIT
   pub reads : Fails source → ⊥
   pub writes : Fails out → ⊥
 
--- Where the words ask for something and nothing fails, the status is that of the output which is due, or memory was wanting.
+-- If the words ask for something and nothing fails, the status is the one of the output that is due, or `OutOfMemory`.
 abbrev pub Completes : List Letters → Status → Change → Change → Type 0
 Completes words status source out =
     (request : Request) (input : List ℕ) (output : OutputView) → Answers words request → due request input output
     → NothingFails input (read_by request source) out → (status ≡ status_of output) ⊎ (status ≡ OutOfMemory)
 
--- with which status a command may end on a session whose base meets its mappings
+-- the statuses with which a command may end on a session whose base meets its mappings
 abbrev pub MayEnd : CommandName → Status → Type 0
 MayEnd Run status = (status ≡ Ended) ⊎ (status ≡ Stuck)
 MayEnd Serial status = (status ≡ Ended) ⊎ (status ≡ Stuck)
@@ -80,19 +80,19 @@ ReadsSession Recover = ⊥
 ReadsSession Drill = ⊥
 ReadsSession command = Unit {0}
 
--- the words of `ask` spell a query, those of `explain` a fact
+-- the words of `ask` spell a query, and the words of `explain` spell a fact
 abbrev pub HasQuery : CommandName → Options → Type 0
 HasQuery Ask options = (q : WrittenAsk) × AsksFor options q
 HasQuery Explain options = (fact : WrittenFact) × AsksWhy options fact
 HasQuery command options = Unit {0}
 
--- the part of an input that is read as a session: of `audit` that before the trace, else all
+-- the part of an input that is read as a session: for `audit` the session at its front, otherwise the whole input
 abbrev pub session_for : CommandName → List ℕ → List ℕ
 session_for Audit input = session_in input
 session_for command input = input
 
--- Accepted words of a command on sessions, a session whose base meets its mappings, and nothing fails: the command ends so,
--- or memory was wanting.
+-- If the words of a command on sessions are accepted, the session's base meets its mappings, and nothing fails, then the command
+-- ends with such a status, or with `OutOfMemory`.
 abbrev pub Serves : List Letters → Status → Change → Change → Type 0
 Serves words status source out =
     (options : Options) (input : List ℕ) (s : SessionData) → Answers words (Command options) → ReadsSession options.command
@@ -105,19 +105,20 @@ IsRun Run = Unit {0}
 IsRun Serial = Unit {0}
 IsRun command = ⊥
 
--- what they have written: the result text of what the serial machine tells, in whose repository every mapping in force holds,
--- and of `run`, where it is asked for, the trace behind it
+-- what these commands have written: the result text of the serial machine's result, in whose repository every mapping in force
+-- holds, and for `run`, if it is asked for, the trace after it
 abbrev pub Wrote : CommandName → Options → Change → Change → Type 0
 Wrote Run options source out = WroteRun options.trace options.steps (settings_in options) source out
 Wrote command options source out = WroteWhatHolds options.steps source out
 
--- Where the words ask for `run` or `serial` and that ended or stopped, every mapping in force holds in the repository that it wrote.
+-- If the words ask for `run` or `serial`, and the command ended or stopped, every mapping in force holds in the repository that
+-- it wrote.
 abbrev pub LeavesWhatHolds : List Letters → Status → Change → Change → Type 0
 LeavesWhatHolds words status source out =
     (options : Options) → Answers words (Command options) → IsRun options.command → HasWritten status
     → Wrote options.command options source out
 
--- What `run` has written of a session whose base meets its mappings.
+-- What `run` has written for a session whose base meets its mappings.
 pub record WritesSerially (options : Options) (s : SessionData) (status : Status) (out : Change) : Type 0 where
   -- the history that the workers made: it is legal over the session and the words' settings, begins with the admissions of all
   -- updates, has steps and deliveries after them, and leaves a quiet state
@@ -129,11 +130,12 @@ pub record WritesSerially (options : Options) (s : SessionData) (status : Status
   pub ending : status ≡ status_of_ending (ending_by (serial_told options.steps s).stop)
   -- every mapping in force holds in the repository written
   pub hold : InForceHold s (serial_told options.steps s)
-  -- each null there has the number of its update and its place, nulls of the base keep theirs, and no two nulls of the run fall together
+  -- each null there has the number of its update and its place, nulls of the base keep their names, and no two nulls of the run
+  -- get one name
   pub nulls : NamesNulls s options.steps (settings_in options) history
 
--- The headline. Accepted words of `run`, an input that spells a session whose base meets its mappings, and nothing fails:
--- whatever the schedule of the workers, that is written, or memory was wanting.
+-- The headline. If the words of `run` are accepted, the input spells a session whose base meets its mappings, and nothing fails,
+-- then, whatever the schedule of the workers, this is written, or the status is `OutOfMemory`.
 abbrev pub Headline : List Letters → Status → Change → Change → Type 0
 Headline words status source out =
     (options : Options) (input : List ℕ) (s : SessionData) → Answers words (Command options) → options.command ≡ Run
@@ -142,12 +144,13 @@ Headline words status source out =
 
 -- What `drill` has written.
 pub record WritesSummary (options : Options) (status : Status) (out : Change) : Type 0 where
-  -- `out` has taken the summary of what the serial machine tells of the generated session
+  -- `out` has taken the summary of the serial machine's result on the generated session
   pub taken : Takes out (summary_text options.count options.seed (drill_told options.steps options.count options.seed))
   -- it ended, or stopped where the serial machine stops
   pub ending : status ≡ status_of_ending (ending_by (drill_told options.steps options.count options.seed).stop)
 
--- Accepted words of `drill`, and `out` does not fail: whatever the schedule of the workers, that is written, or memory was wanting.
+-- If the words of `drill` are accepted, and `out` does not fail, then, whatever the schedule of the workers, this is written, or
+-- the status is `OutOfMemory`.
 abbrev pub Drills : List Letters → Status → Change → Type 0
 Drills words status out =
     (options : Options) → Answers words (Command options) → options.command ≡ Drill → (Fails out → ⊥)

@@ -1,4 +1,4 @@
-//! The command `audit` by the terms that its options say.
+//! The command `audit`, by the terms that its options name.
 ghost use Rattle.std.specs.Prelude.{◌≡◌, ◌≤◌};
 ghost use Rattle.cmd_frame.specs.Devices.{change};
 ghost use Rattle.audit_updates.specs.Settings.{settings_of};
@@ -13,7 +13,7 @@ use cmd_plain::Audit;
 use cmd_words::{CommandName, Deps, Options};
 use std::alloc::Global;
 
-// The terms that the options say.
+// The terms that the options name.
 fn terms_in(options: &Options<'_>) -> Terms
     requires some { 1 ≤ options.now.steps }
     requires most { options.now.steps ≤ 300 }
@@ -32,7 +32,7 @@ fn terms_in(options: &Options<'_>) -> Terms
     Terms::new(Budget::new(options.steps), settings)
 }
 
-/// Audits the trace that stands behind a session between the devices.
+/// Performs `audit` between the devices: a session, and the trace that follows it, are judged.
 pub(crate) fn audit_trace<S: Source, O: Sink, E: Sink>(
     alloc: Global,
     options: &Options<'_>,

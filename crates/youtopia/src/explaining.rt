@@ -1,4 +1,4 @@
-//! The command `explain` with the fact that its option spells.
+//! The command `explain`, with the fact that its option spells.
 ghost use Rattle.std.specs.Prelude.{◌≤◌, IfNone, IfOk, IfSome};
 ghost use Rattle.cmd_frame.specs.Devices.{change};
 ghost use Rattle.lang_forms.specs.Views.{fact_of as fact_meant};
@@ -25,7 +25,7 @@ fn fact_in(alloc: Global, options: &Options<'_>) -> Result<Option<RawFact>, Memo
     }
 }
 
-/// Explains the fact of the words between the devices. Words that spell none are refused as wrong ones are.
+/// Performs `explain` between the devices, with the fact of the words. Words that spell none are refused like wrong words.
 pub(crate) fn explain_fact<S: Source, O: Sink, E: Sink>(
     alloc: Global,
     options: &Options<'_>,

@@ -16,7 +16,7 @@ use std::io::{self, ErrorKind};
 use std::process::ExitCode;
 use work_loop::OpenGate;
 
-// The words after the program's name. Where one of them is not UTF-8 there are none, which is refused as no words are.
+// The words after the program's name. If one of them is not UTF-8, there are none, and a call without words is refused.
 fn words(rt: &HostRuntime) -> io::Result<Vec<String>> {
     let mut words = Vec::new(rt.alloc());
     match env::args(rt) {

@@ -29,7 +29,7 @@ fn query_of(alloc: Global, options: &Options<'_>) -> Result<Option<RawAsk>, Memo
     }
 }
 
-// Asks the query of the words between the devices.
+// Performs `ask` between the devices, with the query of the words.
 fn ask_query<S: Source, O: Sink, E: Sink>(
     alloc: Global,
     options: &Options<'_>,
@@ -57,7 +57,7 @@ fn ask_query<S: Source, O: Sink, E: Sink>(
     }
 }
 
-// Does the command between the devices, where it needs no threads.
+// Performs the command between the devices, if it needs no threads.
 fn command<S: Source, O: Sink, E: Sink>(
     alloc: Global,
     options: &Options<'_>,
@@ -90,7 +90,7 @@ fn command<S: Source, O: Sink, E: Sink>(
     }
 }
 
-// Does what the words ask for, where that needs no threads.
+// Does what the words ask for, if it needs no threads.
 fn attend<S: Source, O: Sink, E: Sink>(
     alloc: Global,
     request: Request<'_>,
@@ -111,8 +111,8 @@ fn attend<S: Source, O: Sink, E: Sink>(
     }
 }
 
-/// Does what the words after the program's name ask for, where that needs no threads: all commands but `run` and `drill`, which
-/// are refused as wrong words are. Each status has its row, which says what was read, what `out` took and what `err` was told.
+/// Does what the words after the program's name ask for, if it needs no threads: any command but `run` and `drill`, which are
+/// refused like wrong words. The row of each status says what was read, and what `out` and `err` took.
 pub fn plain<S: Source, O: Sink, E: Sink>(
     alloc: Global,
     words: &[String],

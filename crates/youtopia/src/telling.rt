@@ -1,11 +1,11 @@
-//! A command that tells a fixed text, whatever its input.
+//! A command that prints a fixed text, whatever its input.
 ghost use Rattle.std.specs.Prelude.{◌≡◌};
 ghost use Rattle.youtopia.specs.Calls.{telling};
 
 use cmd_frame::{Command, Ending, Memory, Output};
 use std::alloc::Global;
 
-/// Tells the text.
+/// The command that prints the text.
 #[derive(Drop)]
 pub struct Telling {
     pub text: &'static str,

@@ -1,4 +1,4 @@
-//! The top call: `run` and `drill` by workers, and every other command as `plain` does it.
+//! The top call: `run` and `drill` by workers, and every other command by `plain`.
 ghost use Rattle.std.specs.Prelude.{IfNone, IfOk, IfSome, map, string_bytes};
 ghost use Rattle.cmd_frame.specs.Devices.{change};
 ghost use Rattle.youtopia.specs.Calls.{AskForNoWork, AskForWork, Calls};
@@ -23,7 +23,7 @@ use std::thread::Threads;
 use std::time::Clock;
 use work_loop::Gate;
 
-// The work that the words ask for, if they ask for a command that is done by workers.
+// The work that the words ask for, if they ask for a command that needs workers.
 fn work_asked_for<'a>(alloc: Global, words: &'a [String]) -> Result<Option<ByWorkers<'a>>, Memory>
     ensures some { IfOk result
         (λ found. IfSome found (AskForWork (map string_bytes words.entry.now))) }
@@ -64,16 +64,15 @@ fn answer<R: Threads + Wait + Clock + Sync, G: Gate + Sync, S: Source, O: Sink, 
     }
 }
 
-/// Does what the words after the program's name ask for, from the source to the two sinks, and answers the status with
-/// which the program ends: `run` and `drill` by as many threads as there are workers, each of which passes the gate around the
-/// work at a ticket, and every other command as `plain` does it. Each status has its row, which says what was read, what `out`
-/// took and what `err` was told. The call may wait.
+/// Does what the words after the program's name ask for, from the source to the two sinks, and returns the status with which the
+/// program ends. `run` and `drill` have one thread for each worker, which passes the gate around its work on a ticket; every
+/// other command is done by `plain`. The row of each status says what was read, and what `out` and `err` took. The call may wait.
 ///
-/// Whatever the schedule of the workers, `run` writes the serial machine's result on the session that it read, and the trace,
-/// where it is asked for, is the text of a legal history that ends quiet; `drill` reads nothing, and writes the summary of the
-/// serial machine's result on the session that it generates. Where nothing fails the status is that of the output
-/// which is due, or memory was wanting: of a session whose base meets its mappings a run ends, or stops at a question. In the
-/// repository that it writes every mapping in force holds.
+/// Whatever the schedule of the workers, `run` writes the serial machine's result on the session that it read. The trace, if it
+/// is asked for, is the text of a legal history that ends quiet. `drill` reads nothing, and writes the summary of the serial
+/// machine's result on the session that it generates. If no device fails, the status is the one of the output that is due, or
+/// `OutOfMemory`. If the base of the session meets its mappings, a run ends, or stops at a question. In the repository that it
+/// writes every mapping in force holds.
 pub fn youtopia<R: Threads + Wait + Clock + Sync, G: Gate + Sync, S: Source, O: Sink, E: Sink>(
     rt: &R,
     alloc: Global,

@@ -1,4 +1,4 @@
-//! The commands that are done by workers.
+//! The commands that need workers.
 ghost use Rattle.std.specs.Prelude.{◌≡◌, IfNone, IfSome, false};
 ghost use Rattle.cmd_frame.specs.Devices.{change, no_input};
 ghost use Rattle.cmd_frame.specs.Rows.{Row};
@@ -20,7 +20,7 @@ use std::thread::Threads;
 use std::time::Clock;
 use work_loop::Gate;
 
-/// A command that is done by workers, with its options.
+/// A command that needs workers, with its options.
 #[derive(Drop)]
 pub enum ByWorkers<'a> {
     /// Runs a session's updates.
@@ -29,7 +29,7 @@ pub enum ByWorkers<'a> {
     Drill(Options<'a>),
 }
 
-/// The work that the options name, if their command is done by workers.
+/// The work that the options name, if their command needs workers.
 pub(crate) fn by_workers(options: Options<'_>) -> Option<ByWorkers<'_>>
     ensures some { IfSome result (IsNamedBy options.entry) }
     ensures none { IfNone result (is_by_workers options.entry.command ≡ false) }
@@ -56,7 +56,7 @@ fn settings_in(options: &Options<'_>) -> Settings
     }
 }
 
-/// Does the work between the devices.
+/// Performs the work between the devices.
 pub(crate) fn work<R: Threads + Wait + Clock + Sync, G: Gate + Sync, S: Source, O: Sink, E: Sink>(
     rt: &R,
     gate: &G,
@@ -78,7 +78,7 @@ pub(crate) fn work<R: Threads + Wait + Clock + Sync, G: Gate + Sync, S: Source, 
     }
 }
 
-// Does `run` with these options between the devices.
+// Performs `run` with these options between the devices.
 fn run<R: Threads + Wait + Clock + Sync, G: Gate + Sync, S: Source, O: Sink, E: Sink>(
     rt: &R,
     gate: &G,
@@ -102,7 +102,7 @@ fn run<R: Threads + Wait + Clock + Sync, G: Gate + Sync, S: Source, O: Sink, E: 
     command.perform(rt, gate, alloc, source, out, err)
 }
 
-// Does `drill` with these options. It reads nothing.
+// Performs `drill` with these options. It reads nothing.
 fn drill<R: Threads + Wait + Clock + Sync, G: Gate + Sync, O: Sink, E: Sink>(
     rt: &R,
     gate: &G,

@@ -1,4 +1,4 @@
--- The top call: its words, its status, and the line that tells people how the stream ended.
+-- The top call: its words, its status, and the line on `err` that says how the stream ended.
 use Rattle.std.specs.Prelude.{◌≡◌, ◌⊎◌, ℕ, List, [], ◌∷◌, ◌++◌, codes}
 use Rattle.std.specs.Io.KnownBytes.{Keeps}
 use Rattle.base_types.specs.Meanings.{fact_of}
@@ -30,11 +30,11 @@ violation_words relations mapping image =
     name (codes "yt_live") ∷ colon ∷ name (codes "base") ∷ name (codes "violates") ∷ name mapping ∷ colon
     ∷ separated (λ t. fact_words (written_fact relations (fact_of t))) image
 
--- the line of them
+-- the line of these words
 abbrev pub base_line : List RelationSchema → Name → List Tuple → List ℕ
 base_line relations mapping image = (with_line blank (violation_words relations mapping image)).text
 
--- the line that tells how a stream ended; none where all was served
+-- the line that says how a stream ended; empty if all was served
 abbrev pub line_of : LiveEnd → List ℕ
 line_of ends.Ended = []
 line_of ends.ReadFault = codes "yt_live: read fault\n"
@@ -44,11 +44,11 @@ line_of (ends.SessionRefused fault) = fault_line (wrong_of fault)
 line_of (ends.BaseViolates mapping image session) = base_line session.schema mapping.items image.items
 line_of ends.Memory = codes "yt_live: out of memory\n"
 
--- the line that tells of words
+-- the line for a call with words
 abbrev pub usage_line : List ℕ
 usage_line = codes "yt_live: usage: yt_live\n"
 
--- the end is told with its status, or want of memory in its place
+-- the status and the line on `err` are the end's, or the ones of want of memory
 abbrev pub IsTold : LiveEnd → Status → Change → Type 0
 IsTold e status err = ((status ≡ status_of e) × Tells err (line_of e)) ⊎ ((status ≡ OutOfMemory) × Tells err (line_of ends.Memory))
 
@@ -56,8 +56,8 @@ IsTold e status err = ((status ≡ status_of e) × Tells err (line_of e)) ⊎ ((
 abbrev pub default_settings : Settings
 default_settings = record { retries = 3; deps = Precise }
 
--- Without a word the stream is served by the default settings, with 100 steps for an update; a word is refused before the
--- source is read.
+-- Without words the stream is served by the default settings, with 100 steps for an update; a word is refused before the source
+-- is read.
 abbrev pub Curates : List (List ℕ) → Status → Change → Change → Change → Type 0
 Curates [] status source out err = (e : LiveEnd) × Serves 100 default_settings e source out × IsTold e status err
 Curates (word ∷ words) status source out err =

@@ -1,4 +1,4 @@
--- What a stream's source gave and its sink took, for each way in which the stream may end.
+-- What a stream's source gave and its sink took, for each end of the stream.
 use Rattle.std.specs.Prelude.{◌≡◌, ℕ, ◌+◌, ◌≤◌, Bool, true, false, not, List, [], ◌∷◌, ◌++◌, length, map, Option, Some, None, Result, Ok, Err}
 use Rattle.std.specs.Io.KnownBytes.{Consumes, IsAtEnd}
 use Rattle.base_types.specs.Meanings.{fact_of}
@@ -26,22 +26,22 @@ use Rattle.yt_live.specs.declared.serving.TheConstants.{INPUT_LIMIT}
 
 -- ---- what is due
 
--- What is served of the bytes of an input: where it ends behind them, and where more may follow.
+-- What is served for the bytes of an input: if the input ends after them, and if more may follow.
 pub record Due : Type 0 where
   pub at_end : List ℕ → Served
   pub so_far : List ℕ → Served
 
--- of the bytes of a stream
+-- what is due for the bytes of a stream
 abbrev pub of_stream : ℕ → Settings → Due
 of_stream budget c = record { at_end = live budget c; so_far = so_far budget c }
 
--- of the bytes behind these ones, where S says what is served of lines of commands
+-- what is due for the bytes after `front`, if S says what is served for lines of commands
 abbrev pub of_lines : (List (List ℕ) → Served) → List ℕ → Due
 of_lines S front = record { at_end = λ bytes. S (lines_of (front ++ bytes)); so_far = λ bytes. S (whole_lines (front ++ bytes)) }
 
 -- ---- how it ended
 
--- the source gave some bytes, no more than may be taken, and this holds of them
+-- the source gave at most `room` bytes, and `holds` holds of them
 abbrev pub Gave : ℕ → Change → (List ℕ → Type 0) → Type 0
 Gave room source holds =
     (took : List ℕ) × Consumes source.bytes source.bytes_after took × (length took ≤ room) × holds took
@@ -56,26 +56,26 @@ IsOver ending left = ⊥
 abbrev pub HasEnded : Served → Change → Change → Type 0
 HasEnded s source out = Takes out s.replies × IsOver s.ending source.bytes_after
 
--- the sink took all replies, and the lines end so
+-- the sink took all replies, and the lines end with this ending
 abbrev pub StopsBy : Ending → Served → Change → Type 0
 StopsBy ending s out = Takes out s.replies × (s.ending ≡ ending)
 
--- the base of the session violates the mapping of this name, first with this image
+-- the base of the session violates the mapping with this name; the first violation has this image
 abbrev pub violation : SessionData → List ℕ → List Fact → Ending
 violation s name image = Violates s (record { name = name; image = image })
 
--- what is left of a source, where it tells it
+-- what is left of a source, if that is known
 abbrev pub left_of : Option (List ℕ) → List ℕ
 left_of None = []
 left_of (Some bytes) = bytes
 
--- the sink took a prefix of the replies to what was taken and what is left
+-- the sink took a prefix of the replies to what was read and what is left
 abbrev pub TookPrefix : Due → Change → Change → List ℕ → Type 0
 TookPrefix due source out took = TakesSome out (due.at_end (took ++ left_of source.bytes_after)).replies
 
--- What each end says, where no more bytes than these may be taken. With `Ended`, and where the session is refused, the sink
--- took exactly the replies to what was taken; with any other end a prefix of them. It is `TooLong` exactly where a byte more
--- was taken than may be.
+-- What each end says, if at most `room` bytes may be read. With `Ended`, and if the session is refused, the sink took exactly the
+-- replies to what was read; with any other end it took a prefix of them. The end is `TooLong` if and only if one byte more than
+-- `room` was read.
 abbrev pub Ends : Due → ℕ → LiveEnd → Change → Change → Type 0
 Ends due room ends.Ended source out = Gave room source (λ took. HasEnded (due.at_end took) source out)
 Ends due room ends.ReadFault source out = Gave room source (λ took. StopsBy GoesOn (due.so_far took) out) × Fails source
@@ -93,17 +93,17 @@ Ends due room ends.Memory source out = Gave room source (TookPrefix due source o
 abbrev pub Serves : ℕ → Settings → LiveEnd → Change → Change → Type 0
 Serves budget c e source out = Ends (of_stream budget c) INPUT_LIMIT e source out
 
--- Take any front of the bytes that the source gave, with or without more to come: what it commits is serial.
+-- For any front of the bytes that the source gave, whether more follow or not, what it commits is serial.
 abbrev pub LeavesSerial : Due → Change → Type 0
 LeavesSerial due source =
     (front rest : List ℕ) → Consumes source.bytes source.bytes_after (front ++ rest) → AnyIsSerial (due.at_end front).core × AnyIsSerial (due.so_far front).core
 
--- the end of a call that answers Ok where the stream ended
+-- the end for a call whose Ok means that the stream ended
 abbrev pub end_of : Result (Unit {0}) LiveEnd → LiveEnd
 end_of (Ok u) = ends.Ended
 end_of (Err e) = e
 
--- ---- of its parts
+-- ---- the parts of a stream
 
 -- why a line was not read, as an end
 abbrev pub of_line_refusal : LineRefusal → LiveEnd
@@ -116,7 +116,7 @@ abbrev pub of_read_failure : ReadFailure → LiveEnd
 of_read_failure (reading.Fault f) = ends.SessionRefused f
 of_read_failure reading.Memory = ends.Memory
 
--- The session part was read: behind what was taken, and before it behind what is kept of that, stand lines of commands.
+-- The session part was read: what is kept of the bytes that were read, and the bytes after them, are lines of commands.
 pub record HasOpened (left left' : Option (List ℕ)) (before after : Kept) (text : List ℕ) : Type 0 where
   pub took : List ℕ
   pub taken : Consumes left left' took
@@ -125,7 +125,7 @@ pub record HasOpened (left left' : Option (List ℕ)) (before after : Kept) (tex
       → parted (cut (took ++ more)) ≡ Some (record { text = text; commands = cut (after.bytes ++ more) })
   pub short : length text ≤ INPUT_LIMIT + 1
 
--- The input is at its end, and no command follows: it is served as the session that the text is.
+-- The input is at its end, and no command follows: it is served as the session of the text.
 pub record HasReadAll (left left' : Option (List ℕ)) (text : List ℕ) : Type 0 where
   pub took : List ℕ
   pub taken : Consumes left left' took
@@ -134,7 +134,7 @@ pub record HasReadAll (left left' : Option (List ℕ)) (text : List ℕ) : Type 
   pub serves : (budget : ℕ) (c : Settings) → live budget c took ≡ opened_with budget c (read text) []
   pub short : length text ≤ INPUT_LIMIT + 1
 
--- the text of the session, with lines of commands behind it or at the end of the input
+-- the text of the session, with lines of commands after it, or at the end of the input
 abbrev pub Opened : Bool → Option (List ℕ) → Option (List ℕ) → Kept → Kept → List ℕ → Type 0
 Opened true left left' before after text = HasOpened left left' before after text
 Opened false left left' before after text = HasReadAll left left' text
@@ -143,7 +143,7 @@ Opened false left left' before after text = HasReadAll left left' text
 abbrev pub Opens : Option (List ℕ) → Option (List ℕ) → Kept → Kept → Opening → Type 0
 Opens left left' before after o = Opened o.more left left' before after o.text.items
 
--- no session part is whole yet in what was taken
+-- what was read has no whole session part yet
 abbrev pub OpensNothing : LineRefusal → Option (List ℕ) → Option (List ℕ) → Kept → Type 0
 OpensNothing lines.ReadFault left left' before =
     (took : List ℕ) × Consumes left left' took × (length took ≤ before.room) × (parted (whole_lines took) ≡ None)
@@ -167,7 +167,7 @@ RefusesText text (ends.BaseViolates mapping image session) =
 RefusesText text ends.Memory = Unit {0}
 RefusesText text e = ⊥
 
--- the reply of a turn was written, after which the session is so; whether further lines are taken
+-- the reply of a turn was written, which leaves the session `next`; whether further lines are read
 abbrev pub HasReplied : Turn → Change → Live → Bool → Type 0
 HasReplied t out next more = Takes out t.reply × (t.next ≡ next) × (t.last ≡ not more)
 
@@ -177,7 +177,7 @@ FailsReply reply out ends.WriteFault = TakesSome out reply × Fails out
 FailsReply reply out ends.Memory = TakesNothing out
 FailsReply reply out e = ⊥
 
--- what a session without commands comes to, of which s says what is served
+-- the end of a session without commands, if s is what is served
 abbrev pub EndsAlone : Served → LiveEnd → Change → Type 0
 EndsAlone s ends.Ended out = StopsBy GoesOn s out
 EndsAlone s ends.WriteFault out = TakesSome out s.replies × Fails out

@@ -1,4 +1,4 @@
--- What is replied to a stream: a session, and the lines of commands behind it.
+-- The replies to a stream: a session, and the lines of commands after it.
 use Rattle.std.specs.Prelude.{◌≡◌, ◌-◌, ℕ, Bool, true, false, List, [], ◌∷◌, ◌++◌, codes, length, take, Option, Some, None, option_map, Result, Ok, Err, if◌then◌else◌}
 use Rattle.std.specs.Fmt.{decimal}
 use Rattle.core_engine.specs.States.{State, updates_at}
@@ -30,7 +30,7 @@ says_end (Err refusal) = false
 abbrev pub is_end : List ℕ → Bool
 is_end line = says_end (words_at line)
 
--- The text of a session, and the lines behind it.
+-- The text of a session, and the lines after it.
 pub record Parted : Type 0 where
   pub text : List ℕ
   pub commands : List (List ℕ)
@@ -39,14 +39,14 @@ pub record Parted : Type 0 where
 abbrev pub with_line : List ℕ → Parted → Parted
 with_line line p = record { text = line ++ 10 ∷ p.text; commands = p.commands }
 
--- The lines up to and with the first that holds `end` alone, each with its line feed, and the lines behind it; nothing
--- where no line does.
+-- The lines up to and with the first that holds `end` alone, each with its line feed, and the lines after it; None if no line
+-- does.
 abbrev pub parted : List (List ℕ) → Option Parted
 parted [] = None
 parted (line ∷ lines) =
     if is_end line then Some (record { text = line ++ 10 ∷ []; commands = lines }) else option_map (with_line line) (parted lines)
 
--- a last line as a part of a session's text: behind `end` stands a line feed
+-- a last line as a part of a session's text: a line feed is added after `end`
 abbrev pub last_line : List ℕ → List ℕ
 last_line line = if is_end line then line ++ 10 ∷ [] else line
 
@@ -60,17 +60,17 @@ pub data Ending : Type 0 where
   RefusesSession : Wrong → Ending
   Violates : SessionData → Violated → Ending
 
--- What was replied, how the lines end, and what the core is then, where there is one.
+-- The replies, how the lines end, and the core after them, if one was opened.
 pub record Served : Type 0 where
   pub replies : List ℕ
   pub ending : Ending
   pub core : Option State
 
--- nothing was replied, and no core was opened
+-- no reply, and no core was opened
 abbrev pub unopened : Ending → Served
 unopened ending = record { replies = []; ending = ending; core = None }
 
--- with this replied before
+-- what is served, with this reply in front
 abbrev pub with_front : List ℕ → Served → Served
 with_front front s = record { replies = front ++ s.replies; ending = s.ending; core = s.core }
 
@@ -78,7 +78,7 @@ with_front front s = record { replies = front ++ s.replies; ending = s.ending; c
 abbrev pub parting : Turn → Served
 parting t = record { replies = t.reply; ending = Quits; core = Some t.next.core }
 
--- The lines served one after the other, each at the session that those before it leave, up to the first that asks to end.
+-- The lines served one after the other, each on the session that the lines before it leave, up to the first that asks to end.
 abbrev pub served : Live → List (List ℕ) → Served
 served L [] = record { replies = []; ending = GoesOn; core = Some L.core }
 served L (line ∷ lines) =
@@ -89,26 +89,26 @@ served L (line ∷ lines) =
 abbrev pub ready_line : Live → List ℕ
 ready_line L = codes "ready " ++ (decimal (length (updates_at L.core)) ++ 10 ∷ [])
 
--- the session is told to be ready, and the lines are served
+-- the session is reported as ready, and the lines are served
 abbrev pub attended : Live → List (List ℕ) → Served
 attended L lines = with_front (ready_line L) (served L lines)
 
--- a session that was read, where its base violates no mapping
+-- a session that was read and the lines of commands, if its base violates no mapping
 abbrev pub unless_violated : Option Violated → Live → List (List ℕ) → Served
 unless_violated None L lines = attended L lines
 unless_violated (Some v) L lines = unopened (Violates L.session v)
 
--- what was read, and the lines of commands
+-- what is served for the session that was read, or its fault, and for the lines of commands
 abbrev pub opened_with : ℕ → Settings → Result SessionData Wrong → List (List ℕ) → Served
 opened_with budget c (Ok s) lines = unless_violated (base_violation s) (begun budget c s) lines
 opened_with budget c (Err wrong) lines = unopened (RefusesSession wrong)
 
--- what is served of a session with commands, or of the bytes as a session where no line holds `end` alone
+-- what is served for a session with commands, or for the bytes as a session if no line holds `end` alone
 abbrev pub of_parts : ℕ → Settings → List ℕ → Option Parted → Served
 of_parts budget c bytes None = opened_with budget c (read bytes) []
 of_parts budget c bytes (Some p) = opened_with budget c (read p.text) p.commands
 
--- *Live replies*: what is replied to a whole input, whose last line may lack its line feed.
+-- *Live replies*: the replies to a whole input, whose last line may lack its line feed.
 abbrev pub live : ℕ → Settings → List ℕ → Served
 live budget c bytes = of_parts budget c bytes (parted (lines_of bytes))
 
@@ -122,22 +122,22 @@ pub record IsSerialCore (core : State) : Type 0 where
   pub legal : IsLegalOver core.over core.history
   pub serial : IsSerialOver core.over core.history
 
--- It is one, if a core was opened.
+-- The core is a serial one, if a core was opened.
 abbrev pub AnyIsSerial : Option State → Type 0
 AnyIsSerial None = Unit {0}
 AnyIsSerial (Some core) = IsSerialCore core
 
 -- ---- an input that is not at its end
 
--- the lines that a line feed ends
+-- the lines that end with a line feed
 abbrev pub whole_lines : List ℕ → List (List ℕ)
 whole_lines bytes = take (length (lines_of bytes) - 1) (lines_of bytes)
 
--- A way to cut bytes into lines gives what stands up to the first line feed, and then the lines behind it.
+-- The function cuts bytes into lines: first the bytes up to the first line feed, then the lines after it.
 abbrev pub CutsLines : (List ℕ → List (List ℕ)) → Type 0
 CutsLines cut = (line rest : List ℕ) → HasNoLineFeed line → cut (line ++ 10 ∷ rest) ≡ line ∷ cut rest
 
--- nothing is served before the session is there
+-- what is served so far: nothing before the session is whole
 abbrev pub of_parts_so_far : ℕ → Settings → Option Parted → Served
 of_parts_so_far budget c None = unopened GoesOn
 of_parts_so_far budget c (Some p) = opened_with budget c (read p.text) p.commands

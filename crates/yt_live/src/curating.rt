@@ -13,8 +13,8 @@ use core_queue::{Deps, Settings};
 use def_language::spelled_sessions_are_valid;
 use std::alloc::Global;
 
-/// Serves the stream by the default settings, where there is no word; a word is refused before the source is read. Whatever
-/// bytes the stream has, what they commit is what the serial machine makes of the committed updates alone.
+/// Serves the stream by the default settings, if there is no word; a word is refused before the source is read. Whatever bytes
+/// the stream has, what they commit is what the serial machine makes of the committed updates alone.
 pub fn curate<S: Source, O: Sink, E: Sink>(
     alloc: Global,
     words: &[String],
@@ -36,7 +36,7 @@ pub fn curate<S: Source, O: Sink, E: Sink>(
     }
 }
 
-// Serves the stream by the default settings, and tells how it ended.
+// Serves the stream by the default settings, and says on `err` how it ended.
 fn serve_default<S: Source, O: Sink, E: Sink>(
     alloc: Global,
     source: &mut S,

@@ -20,15 +20,15 @@ pub enum LiveEnd {
     WriteFault,
     /// The input is longer than the limit.
     TooLong,
-    /// What stands up to the first line `end` is no session.
+    /// The text up to the first line `end` is no session.
     SessionRefused(SessionFault),
-    /// The base of the session violates the mapping: this is the image of its first violation.
+    /// The base of the session violates the mapping; `image` is the image of the first violation.
     BaseViolates {
         mapping: Name,
         image: TupleList,
         session: Session,
     },
-    /// Memory was wanting.
+    /// Memory ran out.
     Memory,
 }
 

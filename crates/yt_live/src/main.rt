@@ -1,4 +1,4 @@
-//! The program: curators work over one stream of lines, between standard input, standard output and the error stream.
+//! The program: curators work on one session by a stream of lines, between standard input, standard output and the error stream.
 #![tactic(auto)]
 
 mod curating;
@@ -15,7 +15,7 @@ use std::env;
 use std::io::{self, ErrorKind};
 use std::process::ExitCode;
 
-// The words after the program's name. Where one of them is not UTF-8 there is one empty word, which is refused as any is.
+// The words after the program's name. If one of them is not UTF-8, they become one empty word, which is refused like any word.
 fn words(rt: &HostRuntime) -> io::Result<Vec<String>> {
     let mut words = Vec::new(rt.alloc());
     match env::args(rt) {

@@ -58,7 +58,7 @@ fn is_end(line: &[u8]) -> bool
     }
 }
 
-// Adds a line and its line feed; whether the text is whole with it.
+// Adds a line and its line feed. The result is whether the text is then whole.
 fn push_line(text: &mut Vec<u8>, line: &[u8]) -> Result<bool, LineRefusal>
     ensures pushed { OnOk result (text.new.items ≡ text.old.items ++ line.now ++ 10 ∷ []) }
     ensures whole { IfOk result (λ whole. whole ≡ is_end line.now) }
@@ -69,7 +69,7 @@ fn push_line(text: &mut Vec<u8>, line: &[u8]) -> Result<bool, LineRefusal>
     Ok(is_end(line))
 }
 
-// The text with its last line, which no line feed ends; one is put behind `end`.
+// The text with its last line, which has no line feed; after `end` one is added.
 fn with_last(mut text: Vec<u8>, line: &[u8]) -> Result<Vec<u8>, LineRefusal>
     ensures last { IfOk result (λ all. all.items ≡ text.items ++ last_line line.now) }
     ensures memory { IfErr result (λ refusal. refusal ≡ LineRefusal.Memory) }
@@ -81,7 +81,7 @@ fn with_last(mut text: Vec<u8>, line: &[u8]) -> Result<Vec<u8>, LineRefusal>
     Ok(text)
 }
 
-/// The lines up to and with the first that holds `end` and no other word, or all lines where none does.
+/// Reads the lines up to and with the first that holds `end` and no other word, or all lines if none does.
 pub(crate) fn read_opening<S: Source>(
     alloc: Global,
     lines: &mut Lines,
@@ -125,7 +125,7 @@ pub(crate) fn session_in(alloc: Global, text: &[u8]) -> Result<Session, LiveEnd>
     meeting(alloc, session)
 }
 
-// The session, where its base meets its mappings.
+// The session, if its base meets its mappings.
 fn meeting(alloc: Global, session: Session) -> Result<Session, LiveEnd>
     requires valid { IsSession (session_of session) }
     ensures same { IfOk result (λ s. session_of s ≡ session_of session) }

@@ -35,7 +35,7 @@ fn write<O: Sink>(sink: &mut O, text: &[u8]) -> Result<(), LiveEnd>
     }
 }
 
-// Does what the line says, and writes the reply; whether further lines are taken.
+// Does what the line says, and writes the reply. The result is whether further lines are read.
 fn turn<O: Sink>(
     alloc: Global,
     conversation: &mut Conversation<'_>,
@@ -53,7 +53,7 @@ fn turn<O: Sink>(
     Ok(!told.last)
 }
 
-// The lines of commands, one by one.
+// Serves the lines of commands, one by one.
 fn converse<S: Source, O: Sink>(
     alloc: Global,
     conversation: &mut Conversation<'_>,
@@ -80,7 +80,7 @@ fn converse<S: Source, O: Sink>(
     }
 }
 
-// The line that tells that the session was read, with the number of its updates.
+// The line that says that the session was read, with the number of its updates.
 fn ready(alloc: Global, count: u32) -> Result<Vec<u8>, Memory>
     ensures { IfOk result (λ text. text.items ≡ codes "ready " ++ (decimal count ++ 10 ∷ [])) }
 {
@@ -88,7 +88,7 @@ fn ready(alloc: Global, count: u32) -> Result<Vec<u8>, Memory>
     Ok(text.into_bytes())
 }
 
-// The session is told to be ready.
+// Writes that the session is ready.
 fn greet<O: Sink>(
     alloc: Global,
     conversation: &Conversation<'_>,
@@ -104,7 +104,7 @@ fn greet<O: Sink>(
     write(sink, &first)
 }
 
-// The session is told to be ready, and then the lines of commands are served.
+// Writes that the session is ready, and then serves the lines of commands.
 fn attend<S: Source, O: Sink>(
     alloc: Global,
     conversation: &mut Conversation<'_>,
@@ -120,7 +120,7 @@ fn attend<S: Source, O: Sink>(
     converse(alloc, conversation, lines, source, sink)
 }
 
-// The session of the text, and then the lines of commands.
+// Serves the session of the text, and then the lines of commands.
 fn serve_text<S: Source, O: Sink>(
     alloc: Global,
     text: &[u8],
@@ -142,7 +142,7 @@ fn serve_text<S: Source, O: Sink>(
     attend(alloc, &mut conversation, lines, source, sink)
 }
 
-// The session of the text, at the end of the input.
+// Serves the session of the text, at the end of the input.
 fn serve_alone<O: Sink>(
     alloc: Global,
     text: &[u8],
@@ -160,7 +160,7 @@ fn serve_alone<O: Sink>(
     greet(alloc, &conversation, sink)
 }
 
-// The session, and then the lines of commands.
+// Serves the session of the stream, and then the lines of commands.
 fn serve_all<S: Source, O: Sink>(
     alloc: Global,
     source: &mut S,
@@ -189,11 +189,11 @@ fn serve_all<S: Source, O: Sink>(
     serve_alone(alloc, &begun.text, sink, settings, budget)
 }
 
-/// Serves a stream: a session, and then commands of curators, each replied before the next line is taken.
+/// Serves a stream: a session, and then commands of curators, each with its reply before the next line is read.
 ///
-/// With `Ended` the sink has taken exactly the replies to what the source held, and with any other end a prefix of them,
-/// however the bytes are cut. Whatever they are, the events that they lead to form one legal history, and what it commits is
-/// what the serial machine makes of the committed updates alone, taken whole, in number order, with their answers.
+/// With `Ended` the sink has taken exactly the replies to what was read, and with any other end a prefix of the replies, however
+/// the source cuts the bytes. Whatever the bytes are, their events form one legal history. What it commits is what the serial
+/// machine makes of the committed updates alone, taken whole, in number order, with their answers.
 pub fn serve<S: Source, O: Sink>(
     alloc: Global,
     source: &mut S,

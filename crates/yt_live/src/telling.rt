@@ -1,4 +1,4 @@
-//! The lines that tell people how a stream ended.
+//! The lines on `err` that say how a stream ended.
 ghost use Rattle.std.specs.Prelude.{◌≡◌, IfOk};
 ghost use Rattle.cmd_frame.specs.Devices.{Tells, change};
 ghost use Rattle.lang_reader.specs.Answers.{wrong_of};
@@ -47,7 +47,7 @@ fn base_line(
     Ok(page.end_line()?.into_text())
 }
 
-// The line that tells how the stream ended; none where all was done.
+// The line that says how the stream ended; empty for `Ended`.
 fn line(alloc: Global, end: &LiveEnd) -> Result<Vec<u8>, Memory>
     ensures { IfOk result (λ line. line.items ≡ line_of end.now) }
 {
@@ -69,7 +69,7 @@ fn line(alloc: Global, end: &LiveEnd) -> Result<Vec<u8>, Memory>
     }
 }
 
-/// Tells on `err` how the stream ended, and gives the status of that; want of memory may come in place of it.
+/// Says on `err` how the stream ended, and gives its status; want of memory may come in place of both.
 pub(crate) fn tell<E: Sink>(alloc: Global, end: &LiveEnd, err: &mut E) -> Status
     ensures told { IsTold end.now result (change E.taken E.fault_count err.old err.new) }
 {
@@ -82,7 +82,7 @@ pub(crate) fn tell<E: Sink>(alloc: Global, end: &LiveEnd, err: &mut E) -> Status
     }
 }
 
-// Tells that memory was wanting.
+// Says on `err` that memory ran out.
 fn tell_memory<E: Sink>(err: &mut E) -> Status
     ensures status { result ≡ OutOfMemory }
     ensures told { Tells (change E.taken E.fault_count err.old err.new) (line_of WantOfMemory) }
@@ -91,7 +91,7 @@ fn tell_memory<E: Sink>(err: &mut E) -> Status
     Status::OutOfMemory
 }
 
-/// Tells on `err` that no words are taken.
+/// Says on `err` that the program takes no words.
 pub(crate) fn refuse_words<E: Sink>(err: &mut E) -> Status
     ensures status { result ≡ Usage }
     ensures told { Tells (change E.taken E.fault_count err.old err.new) usage_line }
