@@ -1,4 +1,4 @@
-//! What draws an unknown.
+//! What draws an unknown: its cause.
 ghost use Rattle.std.specs.Prelude.{◌≡◌, map, IfOk};
 ghost use Rattle.std.specs.Cmp.Lexicographic.{pointwise};
 ghost use Rattle.def_chase.specs.Values.{same_fact};
@@ -11,7 +11,7 @@ use base_types::{Memory, TryCopy, TupleList};
 use std::alloc::Global;
 use ws_lines::Source;
 
-/// What draws an unknown: a mapping, for its variable of this number, when its left side has this image, by names.
+/// The cause of an unknown: a mapping (`source`), one of its variables, and the image of its left side, by names.
 #[derive(Drop)]
 pub struct Cause {
     pub source: Source,
@@ -20,7 +20,7 @@ pub struct Cause {
 }
 
 impl Cause {
-    /// Whether it is the same cause.
+    /// Whether both are the same cause.
     pub fn is(&self, other: &Cause) -> bool
         ensures same { result ≡ same_cause (cause_of self.now) (cause_of other.now) }
     {

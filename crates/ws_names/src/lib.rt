@@ -1,4 +1,4 @@
-//! What unknowns are called: the name of each null that stands, and the place that each cause has in its update.
+//! The name of each null that stands, and the place that each cause has in its update.
 #![tactic(auto)]
 
 mod causes;

@@ -4,8 +4,8 @@ use base_types::{List, Memory, Null, TryCopy, Tuple, TupleList, Value, ValueList
 use std::alloc::Global;
 use std::collections::BTreeMap;
 
-/// Each null with its name, found by either. Nulls are named in the order in which they are drawn, and the last ones can be
-/// taken back.
+/// Each null with its name, found by either. Nulls get names in the order in which they are drawn; the last names can be taken
+/// back.
 #[derive(Drop)]
 pub struct Names {
     drawn: List<Pair>,
@@ -21,7 +21,7 @@ pub struct Pair {
 }
 
 impl Names {
-    /// No null has a name.
+    /// An empty table: no null has a name.
     pub fn new(alloc: Global) -> Names {
         Names {
             drawn: List::new(alloc),
@@ -30,7 +30,7 @@ impl Names {
         }
     }
 
-    /// How many nulls have a name.
+    /// The number of nulls that have a name.
     pub fn len(&self) -> usize {
         self.drawn.len()
     }
@@ -40,7 +40,7 @@ impl Names {
         self.drawn.as_slice()
     }
 
-    /// Gives a null, which has none, a name that no other has.
+    /// Gives the null a name. The null has no name yet, and no other null has this name.
     pub fn give(&mut self, null: Null, name: Null) -> Result<(), Memory> {
         self.drawn.reserve(1)?;
         if self.names.insert(null, name).is_err() {
@@ -54,7 +54,7 @@ impl Names {
         Ok(())
     }
 
-    /// Takes the names back but for the first so many.
+    /// Takes back all names but the first `count`.
     pub fn keep(&mut self, count: usize) {
         for _ in count..self.drawn.len() {
             if let Some(pair) = self.drawn.pop() {
@@ -64,7 +64,7 @@ impl Names {
         }
     }
 
-    /// The name of a null; a null without one is called as it is.
+    /// The name of a null, or the null itself if it has no name.
     pub fn name_of(&self, null: Null) -> Null {
         match self.names.get(&null) {
             Some(name) => *name,
@@ -72,12 +72,12 @@ impl Names {
         }
     }
 
-    /// The null of that name; None if none has it.
+    /// The null with this name; None if no null has it.
     pub fn null_called(&self, name: Null) -> Option<Null> {
         self.nulls.get(&name).copied()
     }
 
-    /// The value by names.
+    /// The value with the names of its nulls.
     pub fn value(&self, alloc: Global, value: &Value) -> Result<Value, Memory> {
         match value {
             Value::Null(null) => Ok(Value::Null(self.name_of(*null))),
@@ -86,7 +86,7 @@ impl Names {
         }
     }
 
-    /// The tuple by names.
+    /// The tuple with the names of its nulls.
     pub fn tuple(&self, alloc: Global, tuple: &Tuple) -> Result<Tuple, Memory> {
         if !has_null(tuple) {
             return tuple.share();
@@ -99,7 +99,7 @@ impl Names {
         Tuple::new(alloc, tuple.relation, values)
     }
 
-    /// The tuples by names.
+    /// The tuples with the names of their nulls.
     pub fn tuples(&self, alloc: Global, tuples: &[Tuple]) -> Result<TupleList, Memory> {
         let mut named = TupleList::new(alloc);
         named.reserve(tuples.len())?;

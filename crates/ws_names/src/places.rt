@@ -1,4 +1,4 @@
-//! The table of an update, from what draws an unknown to its place.
+//! The table of an update: the place of each cause that draws an unknown.
 ghost use Rattle.std.specs.Prelude.{◌≡◌, OnOk, IfOk, OnErr, map};
 ghost use Rattle.std.specs.Option.{option_map, option_copied};
 ghost use Rattle.def_workspace.specs.Places.{Place as PlaceMeant, among, giving, greater as greater_of, greatest as greatest_of, place_found};
@@ -8,14 +8,14 @@ use crate::causes::Cause;
 use base_types::{List, Memory, NumberList, TryCopy};
 use std::alloc::Global;
 
-/// A cause with the place that it has.
+/// A cause with its place.
 #[derive(Drop)]
 pub struct Place {
     pub cause: Cause,
     pub number: u32,
 }
 
-/// The places of an update, rising.
+/// The places of an update, in rising order.
 pub type Places = List<Place>;
 
 impl TryCopy for Place {
@@ -33,8 +33,8 @@ impl TryCopy for Place {
     }
 }
 
-/// The place that the cause has: its first one that is not among those given, or else one more than the greatest, which is then
-/// in the table. It is refused only for want of memory, or of numbers; the table is then unchanged.
+/// The place of the cause: its first one that is not in `given`, or else one more than the greatest, which is added to the table.
+/// If it is refused, memory or numbers do not suffice, and the table is unchanged.
 pub fn give(places: &mut Places, given: &NumberList, cause: Cause) -> Result<u32, Memory>
     ensures number { IfOk result (λ n. n ≡
         (giving (places_of places.old) given.now.items (cause_of cause)).number) }
@@ -52,7 +52,7 @@ pub fn give(places: &mut Places, given: &NumberList, cause: Cause) -> Result<u32
     Ok(number)
 }
 
-// The first place of the cause that is not among those given.
+// The first place of the cause that is not in `given`.
 fn found<'a>(places: &'a Places, given: &NumberList, cause: &Cause) -> Option<&'a Place>
     ensures found { option_map place_of (option_copied result) ≡
         place_found (places_of places.now) given.now.items (cause_of cause.now) }
