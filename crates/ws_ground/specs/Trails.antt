@@ -6,12 +6,12 @@ use Rattle.def_chase.specs.Values.{Fact}
 use Rattle.def_chase.specs.Repository.{Change, Insert, Delete, change}
 use Rattle.ws_ground.specs.declared.grounds.Ground.{Ground}
 
--- The write that takes one back.
+-- The write that takes another one back.
 abbrev pub undoing : Change → Change
 undoing (Insert t) = Delete t
 undoing (Delete t) = Insert t
 
--- What was there before the writes, each of which changed something: they are taken back, the last of them first.
+-- What was there before the writes, if each of them changed something: they are taken back, the last of them first.
 abbrev pub before : List Change → List Fact → List Fact
 before [] D = D
 before (w ∷ ws) D = change (before ws D) (undoing w)
@@ -31,7 +31,7 @@ pub record IsPopped (k : ℕ) (ws : List Write) (vs : List Write) (w : Write) : 
 abbrev pub first_facts : Ground → List Fact
 first_facts g = before (map change_of g.trail.items) g.facts
 
--- The ground h has grown from g: what it wrote since leaves the tuples of g, if it is taken back.
+-- The ground h has grown from g: if what it wrote since then is taken back, the tuples of g are left.
 abbrev pub HasGrown : Ground → Ground → Type 0
 HasGrown g h = HasMade g.trail.items g.facts h.trail.items h.facts
 
@@ -40,7 +40,7 @@ pub record IsSame (g : Ground) (h : Ground) : Type 0 where
   pub facts : h.facts ≡ g.facts
   pub trail : h.trail.items ≡ g.trail.items
 
--- The ground h is g with all taken back that was written after the first k writes.
+-- The ground h is g after all writes but the first k are taken back.
 pub record IsBackTo (k : ℕ) (g : Ground) (h : Ground) : Type 0 where
   pub facts : h.facts ≡ before (map change_of (drop k g.trail.items)) g.facts
   pub trail : h.trail.items ≡ take k g.trail.items

@@ -9,8 +9,8 @@ use set_facts::IndexedFacts;
 use std::alloc::Global;
 use ws_names::Names;
 
-/// The tuples, the names of nulls, the number of the last op, and what was written since the beginning: each write that
-/// changed something, in order, so that it can be taken back.
+/// The tuples, the names of nulls, the number of the last op, and the trail: each write since the beginning that changed
+/// something, in order, so that it can be taken back.
 #[derive(Drop)]
 pub struct Ground {
     pub facts: IndexedFacts,
@@ -28,7 +28,7 @@ pub struct Mark {
 }
 
 impl Ground {
-    /// The tuples with their names, of which no op was done.
+    /// A ground with these tuples and names, before any op.
     pub fn new(alloc: Global, facts: IndexedFacts, names: Names) -> Ground {
         Ground {
             facts,
@@ -38,7 +38,7 @@ impl Ground {
         }
     }
 
-    /// Where it stands.
+    /// The mark of the present moment.
     pub fn mark(&self) -> Mark
         ensures trail { result.trail ≡ length self.now.trail.items }
     {
@@ -59,7 +59,7 @@ impl Ground {
         Ok(())
     }
 
-    /// Makes writes in turn, and keeps those that change something. If it is refused, some are made.
+    /// Makes the writes in turn, and adds each that changes something to the trail. After a refusal, some of them may be made.
     pub fn make(&mut self, writes: WriteList) -> Result<(), Memory>
         ensures grown { HasGrown self.old self.new }
     {
@@ -67,7 +67,7 @@ impl Ground {
     }
 }
 
-// Takes back the writes after the first so many, the last of them first.
+// Takes back the writes after the first `count`, the last of them first.
 #[tactic(auto, using(crate::proofs::Trailing::back_on, crate::proofs::Trailing::kept_on, crate::proofs::Trailing::fewer_left, crate::proofs::Trailing::back_all, crate::proofs::Trailing::kept_all))]
 fn take_back(facts: &mut IndexedFacts, trail: &mut WriteList, count: usize) -> Result<(), Memory>
     ensures facts { OnOk result
@@ -80,7 +80,7 @@ fn take_back(facts: &mut IndexedFacts, trail: &mut WriteList, count: usize) -> R
     Ok(())
 }
 
-// The last write, if there are more than so many.
+// Takes the last write from the trail if there are more than `count`.
 fn pop_after(trail: &mut WriteList, count: usize) -> Option<Write>
     ensures some { IfSome result (IsPopped count trail.old.items trail.new.items) }
     ensures none { IfNone result (length trail.old.items ≤ count) }
@@ -95,7 +95,7 @@ fn pop_after(trail: &mut WriteList, count: usize) -> Option<Write>
     }
 }
 
-// Takes back the write, which changed something.
+// Takes back one write, which changed something.
 fn undo(facts: &mut IndexedFacts, write: Write) -> Result<(), Memory>
     ensures undone { OnOk result (facts.new ≡ change facts.old (undoing (change_of write))) }
 {
@@ -110,7 +110,7 @@ fn undo(facts: &mut IndexedFacts, write: Write) -> Result<(), Memory>
     Ok(())
 }
 
-// Makes the writes in turn, and adds to the trail those that change something.
+// Makes the writes in turn, and adds each that changes something to the trail.
 #[tactic(auto, using(crate::proofs::Trailing::none_made, crate::proofs::Trailing::more_made))]
 fn make_all(
     facts: &mut IndexedFacts,
@@ -138,7 +138,7 @@ fn make_one(facts: &mut IndexedFacts, trail: &mut WriteList, write: Write) -> Re
 fn insert(facts: &mut IndexedFacts, trail: &mut WriteList, tuple: Tuple) -> Result<(), Memory>
     ensures made { HasMade trail.old.items facts.old trail.new.items facts.new }
 {
-    // The set tells that it is in order.
+    // The call proves that the set is in order.
     facts.is_in_order();
     trail.reserve(1)?;
     let same = tuple.share()?;

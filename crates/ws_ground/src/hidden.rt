@@ -7,23 +7,23 @@ use base_types::{
 use std::alloc::Global;
 use ws_lines::{Deed, Spelled, SpelledTuple};
 
-/// The relation that says which new unknowns are wanted.
+/// The relation whose tuples ask for new unknowns.
 pub const WANT: u16 = 100;
 
-/// The relation that says what they are.
+/// The relation whose tuples give the value of each new unknown.
 pub const UNKNOWN: u16 = 101;
 
-/// The relation that says for which values a mapping is to be repaired.
+/// The relation whose tuples give the values that a mapping is to be repaired for.
 pub const FIX: u16 = 102;
 
-/// That the new unknown of this number is wanted.
+/// The tuple that asks for the new unknown of this number.
 pub fn wanted(alloc: Global, number: u32) -> Result<Tuple, Memory> {
     let mut values = ValueList::new(alloc);
     values.push(Value::Int(i64::from(number)))?;
     Tuple::new(alloc, WANT, values)
 }
 
-/// That the new unknown of this number is this value.
+/// The tuple that gives the new unknown of this number this value.
 pub fn found_as(alloc: Global, number: u32, value: Value) -> Result<Tuple, Memory> {
     let mut values = ValueList::new(alloc);
     values.push(Value::Int(i64::from(number)))?;
@@ -31,7 +31,7 @@ pub fn found_as(alloc: Global, number: u32, value: Value) -> Result<Tuple, Memor
     Tuple::new(alloc, UNKNOWN, values)
 }
 
-/// That a mapping is to be repaired for these values.
+/// The tuple that asks for the repair of a mapping for these values.
 pub fn to_fix(alloc: Global, values: ValueList) -> Result<Tuple, Memory> {
     let mut values = values;
     if values.is_empty() {
@@ -40,7 +40,7 @@ pub fn to_fix(alloc: Global, values: ValueList) -> Result<Tuple, Memory> {
     Tuple::new(alloc, FIX, values)
 }
 
-/// How many new unknowns the update has.
+/// The number of new unknowns in the update.
 pub fn news_of(deed: &Deed) -> u32 {
     match deed {
         Deed::Insert(tuples) => news_among(tuples.as_slice()),
@@ -131,7 +131,7 @@ fn has_variable(atom: &Atom, variable: u16) -> bool {
         .any(|term| matches!(term, Term::Var(v) if *v == variable))
 }
 
-/// The hidden mapping by which a mapping is repaired, `_fix_m: _fix_m(x, ..) -> RIGHT`.
+/// The hidden mapping that repairs a mapping, `_fix_m: _fix_m(x, ..) -> RIGHT`.
 pub fn fixing_mapping(alloc: Global, mapping: &Mapping) -> Result<Mapping, Memory> {
     let mut numbers = shared_variables(alloc, mapping)?;
     let shared = small(numbers.len());
@@ -150,7 +150,7 @@ pub fn fixing_mapping(alloc: Global, mapping: &Mapping) -> Result<Mapping, Memor
     })
 }
 
-// The count as the number of a variable. A mapping has fewer variables than there are such numbers.
+// The count as the number of a variable. It fits: a mapping has fewer variables than there are such numbers.
 fn small(count: usize) -> u16 {
     u16::try_from(count).unwrap_or(u16::MAX)
 }
@@ -166,7 +166,7 @@ fn names_among(alloc: Global, mapping: &Mapping, numbers: &[u16]) -> Result<Name
     Ok(names)
 }
 
-// The left side with so many variables; the number 0 stands there if there are none.
+// The left side with `count` variables, or with the constant 0 if there are none.
 fn left_side(alloc: Global, count: u16) -> Result<AtomList, Memory> {
     let mut terms = TermRow::new(alloc);
     for variable in 0..count {
@@ -183,7 +183,7 @@ fn left_side(alloc: Global, count: u16) -> Result<AtomList, Memory> {
     Ok(left)
 }
 
-// The atoms with their variables numbered by their places among these.
+// The atoms, each variable numbered by its place in `numbers`.
 fn atoms_among(alloc: Global, atoms: &AtomList, numbers: &[u16]) -> Result<AtomList, Memory> {
     let mut among = AtomList::new(alloc);
     for atom in atoms.as_slice() {
@@ -207,7 +207,7 @@ fn atom_among(alloc: Global, atom: &Atom, numbers: &[u16]) -> Result<Atom, Memor
     })
 }
 
-// The place of the number, from 0; how many there are if it is not among them.
+// The place of the variable in `numbers`, from 0; their count if it is not there.
 fn place_among(numbers: &[u16], variable: u16) -> u16 {
     let place = numbers.iter().position(|number| *number == variable);
     small(place.unwrap_or(numbers.len()))

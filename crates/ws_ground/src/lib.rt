@@ -1,5 +1,5 @@
-//! What the runs of a workspace's updates are over: its tuples with the names of their nulls, and what was written, so that it can be
-//! taken back; and the hidden relations and mappings, that new unknowns and repairs go by.
+//! What the update of a workspace runs over: tuples with the names of their nulls, and a trail to take writes back. The hidden
+//! relations and mappings, which draw new unknowns and make repairs, are here too.
 #![tactic(auto)]
 
 mod grounds;

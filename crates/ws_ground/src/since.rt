@@ -1,12 +1,12 @@
-//! The image of a mapping's left side, for which a tuple is wanted.
+//! The image of a mapping's left side that makes it want a tuple.
 
 use crate::hidden::shared_variables;
 use base_types::{Binding, Facts, Mapping, Memory, TryCopy, TupleList, Value};
 use chase_match::first_match;
 use std::alloc::Global;
 
-/// The least image of the mapping's left side if the variables that stand on both sides have these values; none if there is no
-/// match.
+/// The least image of the mapping's left side if its shared variables (`shared_variables`) have these values; empty if there is
+/// no match.
 pub fn image_for<F: Facts>(
     alloc: Global,
     mapping: &Mapping,

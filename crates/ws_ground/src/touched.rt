@@ -1,4 +1,4 @@
-//! Which tuples writes touched, and whether they were and are there.
+//! The tuples that writes touched: whether each was there before them, and is there after them.
 
 use crate::hidden::WANT;
 use base_types::{Facts, Memory, Tuple, Write, WriteList};
@@ -7,28 +7,28 @@ use std::alloc::Global;
 use std::collections::BTreeMap;
 use ws_names::Names;
 
-/// Whether a tuple was there before, and is there now.
+/// Whether a tuple was there before the writes, and is there now.
 #[derive(Clone, Copy)]
 pub struct Touch {
     pub was: bool,
     pub is: bool,
 }
 
-/// Tuples that were touched, in order.
+/// Touched tuples, in order.
 #[derive(Drop)]
 pub struct Touched {
     pub tuples: BTreeMap<Tuple, Touch>,
 }
 
 impl Touched {
-    /// None was touched.
+    /// No touched tuple.
     pub fn new(alloc: Global) -> Touched {
         Touched {
             tuples: BTreeMap::new(alloc),
         }
     }
 
-    /// Adds writes each of which changed something.
+    /// Adds writes that were made, each of which changed something.
     pub fn made(&mut self, writes: &[Write]) -> Result<(), Memory> {
         for write in writes {
             match write {
@@ -39,7 +39,7 @@ impl Touched {
         Ok(())
     }
 
-    /// Adds writes that are to be made over the tuples.
+    /// Adds writes that are still to be made over `facts`.
     pub fn to_make(&mut self, writes: &[Write], facts: &IndexedFacts) -> Result<(), Memory> {
         for write in writes {
             match write {
@@ -50,7 +50,7 @@ impl Touched {
         Ok(())
     }
 
-    /// What came and went, by names, in the order of the tuples.
+    /// The net change: the tuples that came or went, by names, in the order of the tuples.
     pub fn net(&self, alloc: Global, names: &Names) -> Result<WriteList, Memory> {
         let mut net = WriteList::new(alloc);
         for (tuple, touch) in &self.tuples {
@@ -66,7 +66,7 @@ impl Touched {
         Ok(net)
     }
 
-    // The tuple is now there or not; if it was not touched before, it was there or not.
+    // Notes whether the tuple is there now; `was` counts only at the first touch.
     fn touch(&mut self, tuple: &Tuple, was: bool, is: bool) -> Result<(), Memory> {
         let mut first = was;
         if let Some(touch) = self.tuples.get(tuple) {
