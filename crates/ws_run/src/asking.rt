@@ -13,7 +13,7 @@ use ws_ground::{Touched, image_for};
 use ws_lines::{Asked, Given, Source};
 use ws_names::Names;
 
-/// Which question it is.
+/// Names the question: its source, and by names its wanted tuple, or the tuples of which some must go.
 pub(crate) fn asked_by(
     alloc: Global,
     setting: &Setting<'_>,
@@ -36,7 +36,7 @@ pub(crate) fn asked_by(
     }
 }
 
-/// The choice of an answer as the question takes it, if it was given to this question and fits it.
+/// The choice of an answer in the terms of the question, if the answer was given to this question and fits it.
 pub(crate) fn fitting(
     alloc: Global,
     setting: &Setting<'_>,
@@ -97,7 +97,7 @@ fn negative_choice(
     Ok(Some(Choice::Delete(chosen)))
 }
 
-// The tuple of that name among these.
+// The tuple among `tuples` that has this form by names.
 fn called(
     alloc: Global,
     names: &Names,
@@ -112,7 +112,7 @@ fn called(
     Ok(None)
 }
 
-/// The question that the program is at, by names, after so many answers.
+/// The question that the program is at, by names, after the run took `taken` answers.
 pub(crate) fn told(
     alloc: Global,
     over: Over<'_>,
@@ -146,7 +146,7 @@ pub(crate) fn told(
     }
 }
 
-// The image for which the program repairs. Of a repair of its own it is that of the mapping that is repaired.
+// The image that the program repairs for. In a repair by `fix` it is an image of the mapping that is repaired.
 fn since(alloc: Global, over: Over<'_>, program: &Attempt) -> Result<TupleList, Memory> {
     let setting = over.run.setting;
     let Some(bound) = program.bound() else {
@@ -161,7 +161,7 @@ fn since(alloc: Global, over: Over<'_>, program: &Attempt) -> Result<TupleList, 
     }
 }
 
-// The image of the mapping that is repaired for these values.
+// The image of the repaired mapping's left side for these values.
 fn since_fixed(
     alloc: Global,
     over: Over<'_>,

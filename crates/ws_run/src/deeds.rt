@@ -12,8 +12,8 @@ use std::alloc::Global;
 use ws_ground::{Ground, found_as, news_of, to_fix, wanted};
 use ws_lines::{Deed, GivenList, SpelledTuple};
 
-/// Takes the ops of an update whole over the ground, one after the other, with these answers. If it halts, the ops that were
-/// done before have to be taken back. An update that puts a mapping in force or takes one away has none.
+/// Runs the ops of an update over the ground, one after the other, each whole, with these answers. After a halt, the caller must
+/// take back the ops that were done. An update that puts a mapping in force or takes one away has no ops.
 #[tactic(auto, using(ws_ground::proofs::Trailing::none_made))]
 pub fn run_deed(
     alloc: Global,
@@ -64,7 +64,7 @@ fn insert_all(
     settle(alloc, run, ground, thread, first, news)
 }
 
-// One tuple comes, and then the other goes, if it is there by then.
+// Inserts the new tuple, and then deletes the old one if it is still there.
 #[tactic(auto, using(ws_ground::proofs::Trailing::none_made, ws_ground::proofs::Trailing::more_made))]
 fn swap(
     alloc: Global,
@@ -86,7 +86,7 @@ fn swap(
     settle(alloc, run, ground, thread, first, news)
 }
 
-// Draws that number of new unknowns.
+// Draws `news` new unknowns.
 #[tactic(auto, using(ws_ground::proofs::Trailing::none_made, ws_ground::proofs::Trailing::more_made))]
 fn draw(
     alloc: Global,
@@ -104,7 +104,7 @@ fn draw(
     Ok(())
 }
 
-// Takes away what says of them what they are.
+// Deletes the hidden tuples that say what the new unknowns are.
 #[tactic(auto, using(ws_ground::proofs::Trailing::none_made, ws_ground::proofs::Trailing::more_made))]
 fn settle(
     alloc: Global,
@@ -123,7 +123,7 @@ fn settle(
     Ok(())
 }
 
-// What says of the new unknown of this number what it is by now.
+// The hidden tuple that says what the new unknown of this number is by now.
 fn settling(alloc: Global, thread: &Thread, first: u32, number: u32) -> Result<Tuple, Memory> {
     let null = Value::Null(drawn_as(first, number)?);
     let now = follow(alloc, thread.steps.as_slice(), &null)?;
@@ -147,7 +147,7 @@ fn add_all(
     Ok(())
 }
 
-// Those that are there by then go.
+// Deletes the tuples that are still there when their turn comes.
 #[tactic(auto, using(ws_ground::proofs::Trailing::none_made, ws_ground::proofs::Trailing::more_made))]
 fn remove_all(
     alloc: Global,
@@ -183,7 +183,7 @@ fn fill(
     take_op(alloc, run, ground, thread, Operation::Replace(null, value))
 }
 
-// What says that a mapping is to be repaired comes, and goes as what it is by then.
+// Inserts the hidden tuple that asks for the repair, and deletes it in the form that the repair gave it.
 #[tactic(auto, using(ws_ground::proofs::Trailing::none_made, ws_ground::proofs::Trailing::more_made))]
 fn fix(
     alloc: Global,

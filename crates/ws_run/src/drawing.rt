@@ -1,4 +1,4 @@
-//! The names of what a step drew.
+//! The names of the nulls that a step drew.
 
 use crate::settings::Setting;
 use crate::threads::Thread;
@@ -9,8 +9,8 @@ use std::alloc::Global;
 use ws_lines::Source;
 use ws_names::{Cause, Names, give};
 
-/// Names the nulls that the last step drew, of which there were so many before it: each by the mapping, its variable, and the
-/// image of the left side.
+/// Names the nulls that the last step drew; `before` is the number of nulls before that step. Each gets its name from the
+/// mapping, its variable, and the image of the left side.
 pub(crate) fn name_drawn(
     alloc: Global,
     setting: &Setting<'_>,
@@ -47,7 +47,7 @@ pub(crate) fn name_drawn(
     Ok(())
 }
 
-// What is drawn by a mapping for an image of its left side, from this variable on.
+// The nulls that a mapping draws for an image of its left side, from this variable on.
 #[derive(Drop)]
 struct Drawn {
     source: Source,
@@ -56,7 +56,7 @@ struct Drawn {
 }
 
 impl Drawn {
-    // The cause of the next one.
+    // The cause of the next null.
     fn next(&mut self, alloc: Global) -> Result<Cause, Memory> {
         let variable = self.variable;
         self.variable = variable.saturating_add(1);
@@ -68,7 +68,7 @@ impl Drawn {
     }
 }
 
-// Names one null, which is of this cause.
+// Names one null, which has this cause.
 fn name_one(
     number: u32,
     names: &mut Names,

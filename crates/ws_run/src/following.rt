@@ -1,11 +1,11 @@
-//! What the steps so far made of a value.
+//! What a value has become by the steps so far.
 
 use crate::threads::{Step, Thread};
 use base_types::{Memory, TryCopy, Tuple, Value, ValueList};
 use run_note::{Rewriting, Way};
 use std::alloc::Global;
 
-/// What these steps made of the value.
+/// What the value has become by these steps.
 pub fn follow(alloc: Global, steps: &[Step], value: &Value) -> Result<Value, Memory> {
     let mut now = value.copy(alloc)?;
     for step in steps {
@@ -33,7 +33,7 @@ fn follow_one(alloc: Global, step: &Step, value: Value) -> Result<Value, Memory>
     }
 }
 
-/// What the run so far made of the tuple.
+/// What the tuple has become by the run so far.
 pub(crate) fn followed(alloc: Global, thread: &Thread, tuple: &Tuple) -> Result<Tuple, Memory> {
     let mut values = ValueList::new(alloc);
     for value in tuple.values.as_slice() {

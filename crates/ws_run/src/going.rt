@@ -1,4 +1,4 @@
-//! The steps of an op, one after the other, up to its end or its halt.
+//! The steps of an op, one after the other, until it ends or halts.
 ghost use Rattle.std.specs.Prelude.{◌≡◌, ◌<◌, [], true, None, OnOk};
 ghost use Rattle.def_chase.specs.Repository.{IsRepository};
 ghost use Rattle.run_step.specs.Turns.{view_of};
@@ -18,8 +18,8 @@ use set_facts::IndexedFacts;
 use std::alloc::Global;
 use ws_names::Names;
 
-/// Makes the steps of the program, which has made none, up to its end, and gives the choices that it took. It is halted if it asks
-/// and no answer fits, or if it does not end done.
+/// Makes the steps of the program to its end, and keeps the choices that it took. The program has made no step yet. The run halts
+/// if the program asks and no answer fits, or if it does not end done.
 pub(crate) fn go(
     alloc: Global,
     over: Over<'_>,
@@ -37,7 +37,7 @@ pub(crate) fn go(
     go_with(alloc, over, names, thread, choices, program, &mut view)
 }
 
-// The same with a view of the tuples, which is of the mappings in force, in the op's direction, and sees its writes.
+// Does what `go` does, with a view of the tuples by the mappings in force, in the op's direction, that sees the op's writes.
 fn go_with(
     alloc: Global,
     over: Over<'_>,
@@ -64,7 +64,7 @@ fn go_with(
     Err(Halt::Left(too_long(alloc)))
 }
 
-// Makes the next step, or tells why it is not made.
+// Makes the next step, or returns the reason why it is not made.
 #[tactic(auto, using(crate::proofs::Onward::rests_after, crate::proofs::Onward::sees_on))]
 fn advance(
     alloc: Global,
@@ -103,7 +103,7 @@ fn advance(
     }
 }
 
-// If the program is at a question: takes the choice of the next answer if that fits, and else tells what is asked.
+// If the program is at a question: takes the next answer's choice if it fits, and else returns the question as the reason.
 fn offer(
     alloc: Global,
     over: Over<'_>,
@@ -136,7 +136,7 @@ fn has_steps_left(setting: &Setting<'_>, program: &Attempt) -> bool
     setting.budget.allows(program.steps()) && program.steps() < setting.steps
 }
 
-// That the program has ended so.
+// Halts the run unless the program ended done.
 fn ended(alloc: Global, names: &Names, outcome: Outcome) -> Result<(), Halt> {
     match outcome {
         Outcome::Done => Ok(()),

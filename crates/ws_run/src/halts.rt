@@ -3,9 +3,9 @@
 use base_types::{List, Memory, Null, TupleList, WriteList};
 use ws_lines::{Asked, Source};
 
-/// A question of an update, all by names: which it is; whether it asks which of the candidates the wanted tuple is, or which of the
-/// tuples go; these tuples; the image of the mapping's left side, that it is asked for; what the update did before it; and how many
-/// answers it took before it.
+/// A question of an update, by names. `is_positive` says whether it asks which of the candidates the wanted tuple is, or which of
+/// them go. `since` is the image of the mapping's left side that made it ask; `so_far` and `taken` are what the update wrote and
+/// the number of answers that it took before the question.
 #[derive(Drop)]
 pub struct Question {
     pub asked: Asked,
@@ -16,18 +16,18 @@ pub struct Question {
     pub taken: u32,
 }
 
-/// How many tuples a run put by what this source generates.
+/// The number of tuples that a run put because of this source.
 #[derive(Clone, Copy)]
 pub struct Made {
     pub source: Source,
     pub tuples: u32,
 }
 
-/// What a run made, no source twice.
+/// What a run made; each source stands here at most once.
 pub type MadeList = List<Made>;
 
-/// Why an update does not stand: it asks, an unknown of this name is not there, its steps do not suffice for what it made, the
-/// mapping that it puts in force has violations, or the mapping is gone.
+/// Why an update does not stand: it asks; it names an unknown that is not there; it needs more steps than it may make; the
+/// mapping that it puts in force has violations; or its mapping is gone.
 #[derive(Drop)]
 pub enum Reason {
     Asks(Question),

@@ -10,7 +10,7 @@ use set_facts::IndexedFacts;
 use std::alloc::Global;
 use std::marker::Model;
 
-/// Mappings in force, with what each of them touches. Contracts see their rules.
+/// Mappings in force, and for each relation the mappings with an atom of it. Contracts see their rules.
 #[derive(Drop)]
 pub struct InForce<'a> {
     mappings: Mappings<'a>,
@@ -30,7 +30,7 @@ impl<'a> Model for InForce<'a> {
 }
 
 impl<'a> InForce<'a> {
-    /// These mappings in force.
+    /// Puts these mappings in force.
     pub fn of(alloc: Global, mappings: Mappings<'a>) -> Result<InForce<'a>, Memory>
         ensures rules { IfOk result (λ in_force. in_force ≡ mappings.entry) }
     {
@@ -45,7 +45,7 @@ impl<'a> InForce<'a> {
         &self.mappings
     }
 
-    /// The tuples as an update sees them before its first write, that repairs in this direction.
+    /// The tuples as an update that repairs in this direction sees them before its first write.
     pub(crate) fn view<'b>(
         &'b self,
         alloc: Global,

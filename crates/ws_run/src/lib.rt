@@ -1,5 +1,5 @@
-//! One update of a workspace run over a set of tuples: its ops taken whole, one after the other, with the names of what is
-//! drawn, the answers that fit by names, and notes of each step.
+//! Runs one update of a workspace over a set of tuples. Its ops are taken whole, one after the other. The run names what is
+//! drawn, takes answers that fit by names, and keeps a note of each step.
 #![tactic(auto)]
 
 mod asking;

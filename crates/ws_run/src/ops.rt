@@ -13,7 +13,7 @@ use ws_ground::{Ground, WANT};
 use ws_lines::GivenList;
 use ws_names::Names;
 
-/// A run: what it is of, the answers that it has, and where its trail begins.
+/// A run: its setting, its answers, and where its trail begins.
 #[derive(Clone, Copy)]
 pub(crate) struct Run<'a> {
     pub setting: &'a Setting<'a>,
@@ -21,7 +21,7 @@ pub(crate) struct Run<'a> {
     pub first: usize,
 }
 
-/// What an op goes over: its run, the tuples, and what the ops before it wrote.
+/// What an op works on: its run, the tuples, and what the ops before it wrote.
 #[derive(Clone, Copy)]
 pub(crate) struct Over<'a> {
     pub run: Run<'a>,
@@ -29,7 +29,7 @@ pub(crate) struct Over<'a> {
     pub made: &'a [Write],
 }
 
-/// Takes the operation whole over the ground as its next op, with the answers that the run has not taken yet. If it halts, the
+/// Takes the operation whole as the next op of the ground, with the answers that the run has not taken yet. If it halts, the
 /// tuples and the number of the last op are as before.
 #[tactic(auto, using(ws_ground::proofs::Trailing::none_made))]
 pub(crate) fn take_op(
@@ -77,7 +77,7 @@ pub(crate) fn take_op(
     Ok(())
 }
 
-// Keeps what the op wrote, by names, but for the hidden relations.
+// Keeps the op's writes by names, except in hidden relations.
 fn keep_named(
     alloc: Global,
     names: &Names,

@@ -1,4 +1,4 @@
-//! What the values of an update are in the tuples.
+//! The values of an update as they stand in the tuples.
 
 use crate::halts::{Halt, Reason};
 use base_types::{Facts, Memory, Null, TryCopy, Tuple, TupleList, Value, ValueList};
@@ -7,7 +7,7 @@ use std::alloc::Global;
 use ws_ground::{FIX, Ground};
 use ws_lines::{Spelled, SpelledTuple};
 
-/// What the value is in the tuples; halted at an unknown that is not there.
+/// The value with the null in place of its name; halts if no tuple has the unknown.
 pub(crate) fn found(alloc: Global, ground: &Ground, value: &Value) -> Result<Value, Halt> {
     match value {
         Value::Null(name) => Ok(Value::Null(found_null(ground, *name)?)),
@@ -16,7 +16,7 @@ pub(crate) fn found(alloc: Global, ground: &Ground, value: &Value) -> Result<Val
     }
 }
 
-/// The null of that name; halted if it is not there.
+/// The null with this name; halts if no tuple has it.
 pub(crate) fn found_null(ground: &Ground, name: Null) -> Result<Null, Halt> {
     if let Some(null) = ground.names.null_called(name) {
         if stands_in(&ground.facts, null) {
@@ -26,7 +26,7 @@ pub(crate) fn found_null(ground: &Ground, name: Null) -> Result<Null, Halt> {
     Err(Halt::Left(Reason::NotThere(name)))
 }
 
-// Whether some tuple has the null. All tuples of a relation have as many columns as its first one.
+// Whether some tuple has the null. It is enough to search the columns that the relation's first tuple has.
 fn stands_in(facts: &IndexedFacts, null: Null) -> bool {
     let value = Value::Null(null);
     (0..=FIX).any(|relation| stands_in_relation(facts, relation, &value))
@@ -42,7 +42,7 @@ fn stands_in_relation(facts: &IndexedFacts, relation: u16, value: &Value) -> boo
     }
 }
 
-/// What the values are.
+/// The values with nulls in place of names; halts if no tuple has one of the unknowns.
 pub(crate) fn found_all(
     alloc: Global,
     ground: &Ground,
@@ -55,7 +55,7 @@ pub(crate) fn found_all(
     Ok(all)
 }
 
-/// What the tuples are.
+/// The tuples with nulls in place of names; halts if no tuple has one of the unknowns.
 pub(crate) fn found_tuples(
     alloc: Global,
     ground: &Ground,
@@ -69,7 +69,7 @@ pub(crate) fn found_tuples(
     Ok(all)
 }
 
-/// What the tuples of a line are; its new unknowns were drawn by the ops after the first so many.
+/// The tuples of a line with nulls in place of names. Its new unknowns were drawn by the ops after number `first`.
 pub(crate) fn found_spelled(
     alloc: Global,
     ground: &Ground,
@@ -94,8 +94,8 @@ fn found_value(alloc: Global, ground: &Ground, first: u32, value: &Spelled) -> R
     }
 }
 
-/// The null that the new unknown of this number is when it is drawn, by the op of this number after the first so many. It is
-/// refused only if numbers do not suffice.
+/// The null of the new unknown with this number, which is drawn by the op `first + number`. It is refused only if numbers do not
+/// suffice.
 pub(crate) fn drawn_as(first: u32, number: u32) -> Result<Null, Memory> {
     match first.checked_add(number) {
         Some(update) => Ok(Null {

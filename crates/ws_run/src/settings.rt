@@ -1,16 +1,15 @@
-//! What a run is of.
+//! The setting of a run.
 
 use crate::in_force::InForce;
 use base_limits::Budget;
 use base_types::{List, Mapping};
 use ws_lines::Source;
 
-/// What unknowns are named by that the mappings in force draw, mapping by mapping.
+/// The source of each mapping in force, by which the unknowns that it draws get their names.
 pub type SourceList = List<Source>;
 
-/// What a run is of: the update's number; how many steps each of its ops may make, and a budget of one more, so that what the last
-/// step drew is known; the mappings in force during its ops, each with its source; and the mapping that it repairs, if it is a
-/// repair.
+/// The setting of a run: the update's number; the number of steps that each op may make, and a budget of one more, so that what
+/// the last step drew is known; the mappings in force, each with its source; and, in a repair, the mapping that is repaired.
 #[derive(Clone, Copy)]
 pub struct Setting<'a> {
     pub number: u32,

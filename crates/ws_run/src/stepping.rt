@@ -1,4 +1,4 @@
-//! One step of an op, with its note and why it took tuples away.
+//! One step of an op, with its note and the reason why it took tuples away.
 ghost use Rattle.std.specs.Prelude.{◌≡◌, ◌<◌, None, OnOk};
 ghost use Rattle.std.specs.Option.{option_map, option_copied};
 ghost use Rattle.def_chase.specs.Repository.{IsRepository};
@@ -19,9 +19,9 @@ use set_facts::IndexedFacts;
 use std::alloc::Global;
 use ws_lines::Source;
 
-/// Makes one step of the program over the tuples that the view is of, with the choice if it is at a question, and tells of it.
-/// The view is of the mappings in force and in the program's direction. It sees the program's own writes, and then also those of
-/// the step. If it is refused, the program may be within the step.
+/// Makes one step of the program over the view's tuples, with the choice if it is at a question, and returns what it did. The
+/// view has the mappings in force, the program's direction and its own writes, and afterwards also the writes of the step. After
+/// a refusal, the program may be in the middle of the step.
 pub(crate) fn make(
     alloc: Global,
     setting: &Setting<'_>,
@@ -59,7 +59,7 @@ fn source_of(setting: &Setting<'_>, note: &Note) -> Option<Source> {
     }
 }
 
-// Why the program's next step takes tuples away, if it does.
+// Why the program's next step takes tuples away, if it takes any.
 fn taking(
     alloc: Global,
     setting: &Setting<'_>,
@@ -93,7 +93,7 @@ fn taking_at_start(operation: &Operation) -> Taking {
     }
 }
 
-// By the first mapping that has a violation.
+// A backward step takes tuples away for the first mapping that has a violation.
 fn needed(
     alloc: Global,
     setting: &Setting<'_>,

@@ -6,8 +6,8 @@ use std::alloc::Global;
 use ws_lines::Source;
 use ws_names::Places;
 
-/// Why a step takes tuples away: they were named; the mapping lacks what it wants for them; they were chosen among those of a
-/// violation of the mapping; or they became others.
+/// Why a step takes tuples away: the update named them; the mapping lacks what it wants for them; they were chosen at a question
+/// of the mapping; or they became other tuples.
 #[derive(Clone, Copy)]
 pub enum Taking {
     Named,
@@ -16,7 +16,7 @@ pub enum Taking {
     Became,
 }
 
-/// A step: its note, by what it generated, if it did, and why it took tuples away.
+/// A step: its note, the source that generated its tuples, if one did, and why it took tuples away.
 #[derive(Drop)]
 pub struct Step {
     pub note: Note,
@@ -27,7 +27,7 @@ pub struct Step {
 /// Steps in their order.
 pub type StepList = List<Step>;
 
-/// An op that was done: its number, what it did, the choices that it took, and how many nulls it drew.
+/// An op that was done: its number, its operation, the choices that it took, and the number of nulls that it drew.
 #[derive(Drop)]
 pub struct Op {
     pub number: u32,
@@ -39,8 +39,8 @@ pub struct Op {
 /// Ops in their order.
 pub type OpList = List<Op>;
 
-/// What a run keeps: the update's table, the places given in this run, how many answers it took, its steps and its ops, and what
-/// these wrote, by names, but for the hidden relations.
+/// What a run keeps: the update's table, the places given in this run, the number of answers that it took, its steps and ops, and
+/// their writes, by names, except in hidden relations.
 #[derive(Drop)]
 pub struct Thread {
     pub places: Places,
@@ -52,7 +52,7 @@ pub struct Thread {
 }
 
 impl Thread {
-    /// A run that begins, with the update's table.
+    /// A run at its beginning, with the update's table.
     pub fn new(alloc: Global, places: Places) -> Thread {
         Thread {
             places,
