@@ -10,8 +10,8 @@ use Rattle.ws_state.specs.declared.worlds.Standing.{Standing}
 use Rattle.ws_state.specs.declared.worlds.World.{World}
 use Rattle.ws_state.specs.declared.states.State.{State}
 
--- What stands: the tuples and what was written since the fold, the mappings in force and those that are gone, and the updates that
--- stand, in their order.
+-- What stands: the tuples and what was written since the fold, the mappings in force and the mappings that are gone, and the
+-- updates that stand, in their order.
 pub record WhatStands : Type 0 where
   pub facts : List Fact
   pub trail : List Write
@@ -29,7 +29,7 @@ what_stands w =
       order = w.order.items;
     }
 
--- What stood at the last fold: the tuples, the mappings in force, and how many names were given by then.
+-- What stood at the last fold: the tuples, the mappings in force, and the number of names given by then.
 pub record WhatStood : Type 0 where
   pub facts : List Fact
   pub in_force : List ℕ
@@ -40,7 +40,7 @@ what_stood s = record { facts = first_facts s.world.ground; in_force = s.first_i
 
 -- ---- runs
 
--- An update was run: what its ops wrote can be taken back, and all else that stands or waits is as it was.
+-- An update ran: the writes of its ops can be taken back, and all else that stands or waits is as it was.
 pub record HasRun (v : World) (w : World) : Type 0 where
   pub grown : HasGrown v.ground w.ground
   pub in_force : w.in_force.items ≡ v.in_force.items
@@ -48,7 +48,7 @@ pub record HasRun (v : World) (w : World) : Type 0 where
   pub order : w.order.items ≡ v.order.items
   pub waiting : w.waiting.items ≡ v.waiting.items
 
--- What was written after the first k writes is taken back, and all else that stands is as it was.
+-- All writes but the first k are taken back, and all else that stands is as it was.
 pub record IsTakenBack (k : ℕ) (v : World) (w : World) : Type 0 where
   pub facts : w.ground.facts ≡ before (map change_of (drop k v.ground.trail.items)) v.ground.facts
   pub trail : w.ground.trail.items ≡ take k v.ground.trail.items
@@ -56,7 +56,7 @@ pub record IsTakenBack (k : ℕ) (v : World) (w : World) : Type 0 where
   pub gone : w.gone.items ≡ v.gone.items
   pub order : w.order.items ≡ v.order.items
 
--- What was written since can be taken back, and the updates that stood still do, in their order, before any others.
+-- What was written since can be taken back, and the updates that stood still stand, in their order, before any others.
 pub record GoesOn (v : World) (w : World) : Type 0 where
   pub grown : HasGrown v.ground w.ground
   pub order : take (length v.order.items) w.order.items ≡ v.order.items
@@ -67,7 +67,7 @@ pub record HasGoneOn (s : State) (t : State) : Type 0 where
   pub fold : what_stood t ≡ what_stood s
   pub replays : t.replays ≡ s.replays
 
--- What holds of its number if the line says an update, and of the numbers that it names if it is an undo.
+-- P holds of the update's number if the line says an update, or of the numbers named if the line is an undo.
 abbrev pub IfSays : Line → (ℕ → Type 0) → Type 0
 IfSays (Says u) P = P u.number
 IfSays _ P = Unit {0}

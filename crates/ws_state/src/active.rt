@@ -1,4 +1,4 @@
-//! The mappings that are in force during the ops of an update.
+//! The mappings in force during the ops of an update.
 ghost use Rattle.std.specs.Prelude.{◌≡◌, ◌≤◌, true, map};
 ghost use Rattle.std.specs.List.{AllByRecursion};
 ghost use Rattle.def_chase.specs.Mappings.{Rule};
@@ -18,7 +18,7 @@ pub(crate) struct Active {
     pub sources: SourceList,
 }
 
-/// Those of the mappings that are in force, in this order, and after them the hidden ones of the update.
+/// The mappings in force, in this order, and after them the hidden ones that the update needs.
 pub(crate) fn active_for(
     alloc: Global,
     declared: &MappingList,
@@ -43,7 +43,7 @@ pub(crate) fn active_for(
     Ok(active)
 }
 
-// The mapping that the update repairs, with its number, if it is a repair.
+// The mapping that the update repairs, with its number; None if the update is no repair.
 fn fixed<'a>(declared: &'a MappingList, deed: &Deed) -> Option<(u16, &'a Mapping)> {
     match deed {
         Deed::Fix(number, _) => Some((*number, declared.get(*number as usize)?)),
@@ -51,7 +51,7 @@ fn fixed<'a>(declared: &'a MappingList, deed: &Deed) -> Option<(u16, &'a Mapping
     }
 }
 
-/// The mapping that the update repairs, if it is a repair.
+/// The mapping that the update repairs; None if the update is no repair.
 pub(crate) fn fixed_mapping<'a>(declared: &'a MappingList, deed: &Deed) -> Option<&'a Mapping> {
     match fixed(declared, deed) {
         Some((_, mapping)) => Some(mapping),

@@ -1,4 +1,4 @@
-//! What came, what went and what was filled.
+//! What came, what went, and which unknowns were filled.
 
 use crate::states::{Mark, State};
 use crate::ways::{by_of, ways_of};
@@ -9,7 +9,7 @@ use std::collections::{BTreeMap, BTreeSet};
 use ws_lines::Source;
 use ws_run::{Ground, Touched, WANT, follow};
 
-/// A tuple that came or went, by names, and the mapping by which it did, if it did by one.
+/// A tuple that came or went, by names, and the mapping that caused it, if one did.
 #[derive(Drop)]
 pub struct Moved {
     pub tuple: Tuple,
@@ -19,7 +19,7 @@ pub struct Moved {
 /// Tuples that came or went.
 pub type MovedList = List<Moved>;
 
-/// An unknown that was filled, by its name, with what it is now, by names, in how many tuples.
+/// A filled unknown, by its name: its new value, by names, and the number of tuples that held it.
 #[derive(Drop)]
 pub struct Filled {
     pub name: Null,
@@ -30,8 +30,8 @@ pub struct Filled {
 /// Unknowns that were filled.
 pub type FilledList = List<Filled>;
 
-/// What lines did: the tuples that came and went, each in order; the unknowns that were filled; and how many tuples became one with
-/// another by that. A tuple that only had an unknown filled counts neither as gone nor as come.
+/// What lines did: the tuples that came and went, each in order; the unknowns that were filled; and the number of tuples that
+/// became equal to another one. A tuple in which only an unknown was filled counts neither as gone nor as come.
 #[derive(Drop)]
 pub struct Effect {
     pub came: MovedList,
@@ -41,7 +41,7 @@ pub struct Effect {
 }
 
 impl State {
-    /// What the lines since the mark did, if none of them was an undo or a redo.
+    /// What the lines since the mark did, if there was no undo or redo among them.
     pub fn effect_since(&self, alloc: Global, mark: Mark) -> Result<Effect, Memory> {
         let ground = &self.world.ground;
         let standings = after(self.world.order.as_slice(), mark.order);
@@ -63,12 +63,12 @@ impl State {
     }
 }
 
-// Those after the first so many.
+// The items after the first `count`.
 fn after<T>(items: &[T], count: usize) -> &[T] {
     items.get(count..).unwrap_or(&[])
 }
 
-// The tuples that were there before, in order.
+// The touched tuples that were there before, in order.
 fn were_there(alloc: Global, touched: &Touched) -> Result<TupleList, Memory> {
     let mut before = TupleList::new(alloc);
     for (tuple, touch) in &touched.tuples {
@@ -79,7 +79,7 @@ fn were_there(alloc: Global, touched: &Touched) -> Result<TupleList, Memory> {
     Ok(before)
 }
 
-// What the updates made of the value.
+// What the value has become by the updates.
 fn followed_value(alloc: Global, standings: &[Standing], value: &Value) -> Result<Value, Memory> {
     let mut now = value.copy(alloc)?;
     for standing in standings {
@@ -88,7 +88,7 @@ fn followed_value(alloc: Global, standings: &[Standing], value: &Value) -> Resul
     Ok(now)
 }
 
-// What they made of the tuples.
+// What the tuples have become by the updates.
 fn followed_all(
     alloc: Global,
     standings: &[Standing],
@@ -105,7 +105,7 @@ fn followed_all(
     Ok(all)
 }
 
-// The tuples that are there now, and that no tuple of before has become.
+// The tuples that are there now and were not, and that no earlier tuple has become.
 fn came_of(
     alloc: Global,
     ground: &Ground,
@@ -126,7 +126,7 @@ fn came_of(
     Ok(came)
 }
 
-// The tuples of before that have become none which is there.
+// The earlier tuples that are not there any more, under whatever values they have now.
 fn went_of(
     alloc: Global,
     ground: &Ground,
@@ -146,7 +146,7 @@ fn went_of(
     Ok(went)
 }
 
-// How many of the tuples that are still there became one with another.
+// The number of earlier tuples that are still there, but became equal to another one.
 fn merged_of(
     alloc: Global,
     ground: &Ground,
@@ -157,7 +157,7 @@ fn merged_of(
     let mut merged: u32 = 0;
     for target in targets.as_slice() {
         if ground.facts.contains(target) {
-            // One that was not touched was there before, and is there as itself.
+            // A target that was not touched was there before as itself.
             if seen.contains(target) || touched.tuples.get(target).is_none() {
                 merged = merged.saturating_add(1);
             }
@@ -179,7 +179,7 @@ fn set_of(alloc: Global, tuples: &TupleList) -> Result<BTreeSet<Tuple>, Memory> 
     Ok(set)
 }
 
-// The unknowns that were there before the mark and are others now, by name.
+// The unknowns of before the mark that have another value now, by name.
 fn filled_of(
     alloc: Global,
     ground: &Ground,
@@ -210,7 +210,7 @@ fn filled_of(
     Ok(all)
 }
 
-// The unknowns of before the mark, each with how many of the tuples hold it.
+// The unknowns of before the mark, each with the number of these tuples that hold it.
 fn holders_of(
     alloc: Global,
     mark: Mark,

@@ -1,4 +1,4 @@
-//! A fold: the head of what stands.
+//! A fold: what stands becomes the head.
 ghost use Rattle.std.specs.Prelude.{◌≡◌, IfOk};
 ghost use Rattle.ws_state.specs.Folds.{Keeps};
 
@@ -12,8 +12,8 @@ use ws_lines::{Asked, Deed, Given, GivenList, Source, Update};
 use ws_names::{Cause, Place, Places};
 
 impl State {
-    /// The head of what stands: it becomes the base, and what waits goes on waiting. Mappings that are gone are left out, with
-    /// the answers to them and the places drawn by them.
+    /// The head of a fold: what stands becomes the base, and what waits goes on waiting. Mappings that are gone are left out,
+    /// with the answers to them and the places that they drew.
     pub fn head(&self, alloc: Global) -> Result<Head, Memory>
         ensures waits { IfOk result (λ head.
             Keeps self.now.held.items self.now.world.waiting.items head.waits.items) }
@@ -31,7 +31,7 @@ impl State {
         })
     }
 
-    // The numbers of the mappings that are kept, in their new order: those in force, and then those that are proposed.
+    // The numbers of the mappings that are kept, in their new order: first those in force, then the proposed ones.
     fn numbers_kept(&self, alloc: Global) -> Result<List<u16>, Memory> {
         let mut numbers = self.world.in_force.copy(alloc)?;
         for number in 0..small(self.mappings.len()) {
@@ -52,7 +52,7 @@ impl State {
         Ok(kept)
     }
 
-    // The names of the nulls that stand, in the order of these.
+    // The names of the nulls that stand, in the order of the nulls.
     fn unknowns(&self, alloc: Global) -> Result<List<Null>, Memory> {
         let mut nulls = BTreeSet::new(alloc);
         let tuples: TupleList = self.world.ground.facts.list(alloc)?;
@@ -73,7 +73,7 @@ impl State {
     }
 }
 
-// All that waits, of those that are held.
+// The updates that wait, as the head keeps them.
 fn waits_kept(
     alloc: Global,
     numbers: &List<u16>,
@@ -144,7 +144,7 @@ fn new_source(numbers: &List<u16>, source: Source) -> Option<Source> {
     }
 }
 
-// The update with the new number of its mapping. One that speaks of a mapping which is gone does not wait.
+// The update with the new number of its mapping. An update whose mapping is gone does not wait, so it does not occur here.
 fn renumbered(alloc: Global, numbers: &List<u16>, deed: &Deed) -> Result<Deed, Memory> {
     match deed {
         Deed::Fix(mapping, values) => {

@@ -15,9 +15,9 @@ pub struct HeadWaiting {
 /// Updates that wait, by number.
 pub type HeadWaitingList = List<HeadWaiting>;
 
-/// What stood at a fold: the greatest number of an update; the relations; the mappings, first those in force in their order, of which
-/// there are so many, and then those that are proposed; the names of the unknowns in their order; the tuples by names, in the order
-/// that they have with the unknowns so; and the updates that wait. Mappings are numbered by their places here.
+/// What stood at a fold: the greatest number of an update; the relations; the mappings, the first `in_force` in force in their
+/// order and then the proposed ones; the names of the unknowns in their order; the tuples by names, in the order that they have
+/// with the unknowns in that order; and the updates that wait. Mappings are numbered by their places here.
 #[derive(Drop)]
 pub struct Head {
     pub last: u32,

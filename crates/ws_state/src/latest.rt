@@ -1,4 +1,4 @@
-//! What stood before the update that was said last.
+//! What stood before the latest update was said.
 ghost use Rattle.std.specs.Prelude.{◌≡◌, ◌≤◌, false, true, [], ◌∷◌, length, IfOk, IfSome, IfNone};
 ghost use Rattle.ws_state.specs.Returns.{IsKept, IsAnother};
 
@@ -8,7 +8,8 @@ use base_types::{Memory, NumberList};
 use std::alloc::Global;
 use std::mem;
 
-/// The update that was said last: its number, its place among those that are held, how many waited before it, and what stood.
+/// The latest update that was said: its number, its place among the held updates, and what stood and how many waited before
+/// it.
 #[derive(Drop)]
 pub(crate) struct Latest {
     pub number: u32,
@@ -18,7 +19,7 @@ pub(crate) struct Latest {
 }
 
 impl World {
-    /// What stands and how many wait, before the update of this number runs, which is held at this place.
+    /// What stands and how many updates wait before the update with this number, held at this place, runs.
     pub fn latest(&self, alloc: Global, number: u32, place: usize) -> Result<Latest, Memory>
         ensures kept { IfOk result (λ latest. IsKept self.now number latest) }
     {
@@ -31,15 +32,15 @@ impl World {
     }
 }
 
-/// Keeps this one in place of the one that was kept.
+/// Puts `latest` in place of what was kept.
 pub(crate) fn keep(kept: &mut Option<Latest>, latest: Option<Latest>)
     ensures kept { kept.new ≡ latest }
 {
     drop(mem::replace(kept, latest));
 }
 
-/// The update that was said last, if these numbers name it alone, not fewer wait than before it, and no mapping was declared once
-/// more; none is kept from now on.
+/// The latest update, if `numbers` names it alone, at least as many updates wait as before it, and no mapping was declared once
+/// more. Nothing is kept from now on.
 #[tactic(auto, using(crate::proofs::Returning::none_kept, crate::proofs::Returning::another_kept))]
 pub(crate) fn take_latest(
     kept: &mut Option<Latest>,
@@ -60,7 +61,7 @@ pub(crate) fn take_latest(
     Some(latest)
 }
 
-// Whether it is the one.
+// Whether `latest` can be taken back alone.
 #[tactic(auto, using(crate::proofs::Returning::not_again, crate::proofs::Returning::not_fewer))]
 fn is_meant(latest: &Latest, numbers: &NumberList, waiting: usize, redeclared: bool) -> bool
     ensures meant { numbers.now.items ≡ latest.now.number ∷ [] → latest.now.waiting ≤ waiting

@@ -1,7 +1,7 @@
-//! The state that a workspace's log stands for, grown line by line.
+//! The state that a workspace's log stands for, built line by line.
 //!
-//! `State` takes one line after the other, does what `def_workspace` says of it, and tells of it. After an `Err`, which is want of
-//! memory, the state is of no use and has to be opened again.
+//! `State` takes one line after the other, does what `def_workspace` says of it, and reports what changed. After an `Err`, which
+//! means want of memory, the state is of no use and has to be opened again.
 #![tactic(auto)]
 
 mod active;

@@ -6,7 +6,7 @@ use std::alloc::Global;
 use ws_lines::Source;
 use ws_run::{Made, MadeList, StepList};
 
-/// How many tuples the steps put by each source that generated some.
+/// For each source that generated tuples, the number of tuples that the steps put because of it.
 pub(crate) fn made_of(alloc: Global, steps: &StepList) -> Result<MadeList, Memory> {
     let mut made = MadeList::new(alloc);
     for step in steps.as_slice() {
@@ -18,7 +18,7 @@ pub(crate) fn made_of(alloc: Global, steps: &StepList) -> Result<MadeList, Memor
     Ok(made)
 }
 
-// Adds to those of the source.
+// Adds to the count of the source.
 fn add(made: &mut MadeList, source: Source, tuples: u32) -> Result<(), Memory> {
     match place_of(made, source) {
         Some((place, before)) => {
@@ -30,7 +30,7 @@ fn add(made: &mut MadeList, source: Source, tuples: u32) -> Result<(), Memory> {
     Ok(())
 }
 
-// The place of the source, with its tuples so far.
+// The place of the source in the list, with its count so far.
 fn place_of(made: &MadeList, source: Source) -> Option<(usize, u32)> {
     let place = made.as_slice().iter().position(|one| one.source == source)?;
     let one = made.get(place)?;

@@ -1,4 +1,4 @@
-//! A state that is opened by the head of its file.
+//! Opening a state from the head of its file.
 
 use crate::heads::{Head, HeadWaiting, HeadWaitingList};
 use crate::states::{Held, State, small};
@@ -10,8 +10,8 @@ use std::collections::BTreeMap;
 use ws_names::Names;
 use ws_run::Ground;
 
-/// Why a head cannot be opened: want of memory; a tuple has an unknown that the head does not list; an unknown is listed twice; or
-/// an update waits under a number that is given twice, or that is above the greatest.
+/// Why a head cannot be opened: want of memory; a tuple has an unknown that the head does not list; an unknown is listed twice;
+/// or an update waits under a number that is given twice, or that is above the greatest.
 #[derive(Clone, Copy, Debug, PartialEq, Eq)]
 pub enum OpenFault {
     Memory,
@@ -33,7 +33,7 @@ impl<T: Drop> From<(T, Memory)> for OpenFault {
 }
 
 impl State {
-    /// The state that a head stands for.
+    /// The state that the head stands for.
     pub fn of(alloc: Global, head: Head) -> Result<State, OpenFault> {
         let world = world_of(alloc, &head)?;
         let first_in_force = world.in_force.copy(alloc)?;
@@ -55,7 +55,7 @@ impl State {
         Ok(state)
     }
 
-    // The updates that wait are held, and wait.
+    // Holds the updates that wait, as waiting.
     fn hold(&mut self, alloc: Global, waits: HeadWaitingList) -> Result<(), OpenFault> {
         for waiting in waits.into_vec() {
             let number = waiting.update.number;
@@ -65,7 +65,7 @@ impl State {
         Ok(())
     }
 
-    // The update that was held last has this number, which was given to no other.
+    // Gives the update that was held last this number, if no other has it and it is not above the greatest.
     fn give_place(&mut self, number: u32) -> Result<(), OpenFault> {
         if self.last < number {
             return Err(OpenFault::NotGiven(number));
@@ -98,7 +98,7 @@ impl State {
     }
 }
 
-// What stands by the head, but for the updates that wait.
+// What stands according to the head, without the updates that wait.
 fn world_of(alloc: Global, head: &Head) -> Result<World, OpenFault> {
     let names = names_of(alloc, &head.unknowns)?;
     let facts = facts_of(alloc, &names, &head.base)?;
@@ -113,7 +113,7 @@ fn facts_of(alloc: Global, names: &Names, base: &TupleList) -> Result<IndexedFac
     Ok(IndexedFacts::of(alloc, facts)?)
 }
 
-// The numbers from 0 on, so many.
+// The numbers from 0 on, `count` of them.
 fn first_numbers(alloc: Global, count: usize) -> Result<List<u16>, Memory> {
     let mut numbers = List::new(alloc);
     for number in 0..small(count) {
@@ -122,7 +122,7 @@ fn first_numbers(alloc: Global, count: usize) -> Result<List<u16>, Memory> {
     Ok(numbers)
 }
 
-// The j-th unknown that is listed is the null of update 0 and place j.
+// The unknown listed at place j is the null of update 0 and place j.
 fn names_of(alloc: Global, unknowns: &List<Null>) -> Result<Names, OpenFault> {
     let mut names = Names::new(alloc);
     let mut place: u32 = 0;

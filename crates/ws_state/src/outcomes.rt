@@ -1,4 +1,4 @@
-//! What a run of an update comes to.
+//! The outcome of an update's run.
 ghost use Rattle.std.specs.Prelude.{◌≡◌};
 
 use crate::made::made_of;
@@ -10,7 +10,7 @@ use ws_lines::GivenList;
 use ws_names::Places;
 use ws_run::{Halt, OpList, Reason, StepList, Thread};
 
-/// What a run comes to: done, with what it did; or not, and then why.
+/// The outcome of a run: done, with what it did, or left, with the reason.
 #[derive(Drop)]
 pub(crate) enum Ran {
     Done(Standing),
@@ -18,7 +18,7 @@ pub(crate) enum Ran {
 }
 
 impl Ran {
-    /// Why it is not done, if it is not.
+    /// The reason why the run is not done; None if it is done.
     pub fn reason(self) -> Option<Reason> {
         match self {
             Ran::Done(standing) => {
@@ -30,7 +30,7 @@ impl Ran {
     }
 }
 
-/// A run, how many answers it took, and the table of the update after it.
+/// A run with its outcome, the number of answers that it took, and the table of the update after it.
 #[derive(Drop)]
 pub(crate) struct Tried {
     pub ran: Ran,
@@ -47,12 +47,12 @@ pub(crate) fn left(reason: Reason, places: Places) -> Tried {
     }
 }
 
-/// A run without ops.
+/// A run without ops, which is done.
 pub(crate) fn done_without_ops(alloc: Global, place: usize, places: Places) -> Tried {
     done_by(alloc, place, OpList::new(alloc), places)
 }
 
-/// A run of these ops, which took no answer and wrote nothing.
+/// A done run of these ops, which took no answer and wrote nothing.
 pub(crate) fn done_by(alloc: Global, place: usize, ops: OpList, places: Places) -> Tried {
     Tried {
         ran: Ran::Done(Standing {
@@ -68,7 +68,7 @@ pub(crate) fn done_by(alloc: Global, place: usize, ops: OpList, places: Places) 
     }
 }
 
-/// The run is done, with what it kept.
+/// A done run, with what it kept.
 pub(crate) fn done_with(
     alloc: Global,
     turn: Turn<'_>,
@@ -98,7 +98,7 @@ pub(crate) fn done_with(
     })
 }
 
-// The list, which keeps no room for more.
+// The list without spare room.
 fn fitted<T>(list: List<T>) -> List<T>
     ensures same { result.items ≡ list.items }
 {
@@ -107,7 +107,7 @@ fn fitted<T>(list: List<T>) -> List<T>
     List::from_vec(items)
 }
 
-/// The run was halted, with what it kept.
+/// A halted run, with what it kept.
 pub(crate) fn halted(alloc: Global, thread: Thread, halt: Halt) -> Result<Tried, Memory> {
     match halt {
         Halt::Left(reason) => left_with(alloc, thread, reason),
@@ -118,7 +118,7 @@ pub(crate) fn halted(alloc: Global, thread: Thread, halt: Halt) -> Result<Tried,
     }
 }
 
-// The run is not done, for this reason.
+// A run that is not done, for this reason.
 fn left_with(alloc: Global, thread: Thread, reason: Reason) -> Result<Tried, Memory> {
     let Thread {
         places,
@@ -139,7 +139,7 @@ fn left_with(alloc: Global, thread: Thread, reason: Reason) -> Result<Tried, Mem
     }
 }
 
-// The reason, with what the steps made if they were too many.
+// The reason, with what the steps made if there were too many of them.
 fn with_made(alloc: Global, steps: &StepList, reason: Reason) -> Result<Reason, Memory> {
     match reason {
         Reason::TooLong(made) => {
@@ -153,7 +153,7 @@ fn with_made(alloc: Global, steps: &StepList, reason: Reason) -> Result<Reason, 
     }
 }
 
-/// The first so many of the answers.
+/// The first `count` answers.
 pub(crate) fn first_of(answers: GivenList, count: usize) -> GivenList {
     let mut answers = answers.into_vec();
     answers.truncate(count);

@@ -1,4 +1,4 @@
-//! The state as it was, to which it can go back after lines that were only tried.
+//! Points: earlier states, to go back to after lines that were only tried.
 ghost use Rattle.std.specs.Prelude.{◌≡◌, take, OnOk, IfOk};
 ghost use Rattle.ws_state.specs.Stands.{what_stands, what_stood};
 ghost use Rattle.ws_state.specs.Returns.{IsPlaceIn, IsPointOf, IsBackAt, LeadsBack, RunsAddUp};
@@ -13,7 +13,7 @@ use std::mem;
 use ws_lines::{GivenList, TableList};
 use ws_run::Mark;
 
-/// What a state is to go back to. It is of use for the state that gave it, as long as that goes back to no earlier one.
+/// What a state goes back to. It serves only the state that gave it, and only until that state goes back to an earlier point.
 #[derive(Drop)]
 pub struct Point {
     tables: TableList,
@@ -26,7 +26,7 @@ pub struct Point {
     pub(crate) world: WorldBefore,
 }
 
-// What was held of an update: whether it was undone, how many places it had, and its answers of the last fold.
+// What was held of an update: whether it was undone, the number of its places, and its answers of the last fold.
 #[derive(Drop)]
 struct HeldBefore {
     is_undone: bool,
@@ -44,7 +44,7 @@ pub(crate) struct WorldBefore {
 }
 
 impl State {
-    /// The state as it is now, to go back to.
+    /// The state as it is now, as a point to go back to.
     pub fn point(&self, alloc: Global) -> Result<Point, Memory>
         ensures place { IfOk result (λ point. IsPointOf self.now point) }
     {
@@ -80,8 +80,8 @@ impl State {
         Ok(all)
     }
 
-    /// Takes back all that was done since the point. What was only run is taken back as it was run; if lines were replayed, they
-    /// are replayed again. If it is refused, the state is of no use.
+    /// Takes back all that was done since the point. If lines only ran, the runs are taken back; if lines were replayed, they are
+    /// replayed again. After a refusal, the state is of no use.
     #[tactic(auto, using(crate::proofs::Returning::led_back, crate::proofs::Returning::replayed_since))]
     pub fn back_to(&mut self, alloc: Global, point: Point) -> Result<(), Memory>
         ensures back { OnOk result (LeadsBack point self.old self.new) }
@@ -114,8 +114,8 @@ impl State {
     }
 }
 
-/// What has gone on by runs, and goes on from there by runs, has gone on by runs. So all lines since a point are taken back, if none
-/// of them replays.
+/// If the state goes on by runs, and then by runs again, it has gone on by runs. So all lines since a point are taken back if
+/// none of them replays.
 pub fn runs_add_up()
     ensures { RunsAddUp }
 {}
@@ -160,7 +160,7 @@ impl World {
         })
     }
 
-    /// Takes back what was run since then, but for what waits.
+    /// Takes back what ran since `before` was kept, except what waits.
     pub fn back_to(&mut self, alloc: Global, before: WorldBefore) -> Result<(), Memory>
         ensures back { OnOk result
             (IsBackAt before (what_stands self.old) (what_stands self.new)) }
@@ -179,7 +179,7 @@ impl World {
     }
 }
 
-// The first so many items.
+// Keeps the first `count` items.
 fn shorten<T: Drop>(alloc: Global, list: &mut List<T>, count: usize)
     ensures first { list.new.items ≡ take count list.old.items }
 {

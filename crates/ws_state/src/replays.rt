@@ -1,4 +1,4 @@
-//! What is undone and done again: all lines that count are replayed.
+//! Undo and redo: all lines that count are replayed.
 ghost use Rattle.std.specs.Prelude.{◌≡◌, None, OnOk, IfOk};
 ghost use Rattle.ws_state.specs.Stands.{what_stands, what_stood, GoesOn};
 ghost use Rattle.ws_state.specs.Returns.{IsBackAt, TakesBack};
@@ -14,8 +14,8 @@ use std::mem;
 use ws_lines::GivenList;
 use ws_run::Reason;
 
-/// What a replay changed: the tuples that came and went, by names and in order, and each other update that stands otherwise than before
-/// or wrote something else.
+/// What a replay changed: the tuples that came and went, by names and in order; and each other update whose status or writes
+/// changed.
 #[derive(Drop)]
 pub struct Replayed {
     pub came: TupleList,
@@ -23,7 +23,7 @@ pub struct Replayed {
     pub again: AgainList,
 }
 
-/// An update that a replay changed: its number, and how it stood and stands.
+/// An update that a replay changed: its number, and its status before and after.
 #[derive(Clone, Copy)]
 pub struct Again {
     pub number: u32,
@@ -35,8 +35,8 @@ pub struct Again {
 pub type AgainList = List<Again>;
 
 impl State {
-    /// The lines of these updates and their answers do not count any more. What the update did that was said last is taken back; for
-    /// others all is replayed.
+    /// Undoes these updates: their lines and answers do not count any more. If they are the latest update alone, its writes are
+    /// taken back; else all lines that count are replayed.
     #[tactic(auto, using(crate::proofs::Returning::latest_taken_back, crate::proofs::Returning::another_taken_back))]
     pub(crate) fn undo(&mut self, alloc: Global, numbers: &NumberList) -> Result<Told, Memory>
         ensures fold { OnOk result (what_stood self.new ≡ what_stood self.old) }
@@ -56,7 +56,7 @@ impl State {
         }
     }
 
-    // Takes back what the update did that was said last, which these numbers name.
+    // Takes back what the latest update did; `numbers` names this update alone.
     fn undo_latest(
         &mut self,
         alloc: Global,
@@ -78,7 +78,7 @@ impl State {
         Ok(told)
     }
 
-    /// The lines of these updates and their answers do not count any more, or count again.
+    /// Undoes these updates or redoes them: their lines and answers do not count any more, or count again.
     pub(crate) fn recount(
         &mut self,
         alloc: Global,
@@ -94,7 +94,7 @@ impl State {
         Ok(told)
     }
 
-    /// The answers of these updates up to here do not count any more.
+    /// From now on, the answers that these updates had up to here do not count.
     pub(crate) fn forget(&mut self, alloc: Global, numbers: &NumberList) -> Result<Told, Memory>
         ensures fold { OnOk result (what_stood self.new ≡ what_stood self.old) }
         ensures reason { IfOk result (λ told. told.reason ≡ None) }
@@ -111,7 +111,7 @@ impl State {
         Ok(told)
     }
 
-    // What is compared with what stands after the replay.
+    // What a replay is to be compared with.
     fn before(&mut self, alloc: Global) -> Result<Before, Memory>
         ensures fold { what_stood self.new ≡ what_stood self.old }
     {
@@ -140,7 +140,7 @@ impl State {
         Ok(told)
     }
 
-    // What came and went since then, and the other updates that changed.
+    // What came and went since `before`, with the other updates that changed.
     fn told_since(&self, alloc: Global, before: &Visible, again: AgainList) -> Result<Told, Memory>
         ensures reason { IfOk result (λ told. told.reason ≡ None) }
     {
@@ -154,7 +154,7 @@ impl State {
         })
     }
 
-    /// All lines that count, anew from what stood at the last fold.
+    /// Runs all lines that count again, from what stood at the last fold.
     pub(crate) fn replay(&mut self, alloc: Global) -> Result<(), Memory>
         ensures fold { OnOk result (what_stood self.new ≡ what_stood self.old) }
     {
@@ -184,7 +184,7 @@ impl State {
         Ok(())
     }
 
-    // Back to what stood at the last fold, with what waited then.
+    // Goes back to what stood at the last fold, with what waited then.
     #[tactic(auto, using(crate::proofs::Staying::stood_at_start))]
     fn restart(&mut self, alloc: Global) -> Result<(), Memory>
         ensures fold { OnOk result (what_stood self.new ≡ what_stood self.old) }
@@ -204,7 +204,7 @@ impl State {
         Ok(())
     }
 
-    // The other updates that stand otherwise than before, or wrote something else.
+    // The other updates whose status or writes changed.
     fn changed(
         &self,
         alloc: Global,
@@ -229,7 +229,7 @@ impl State {
         Ok(again)
     }
 
-    // How the updates that are held stand, by place.
+    // The status of each held update, by place.
     fn statuses(&self, alloc: Global) -> Result<Vec<Status>, Memory> {
         let mut statuses = Vec::new(alloc);
         for held in &self.held {
@@ -253,7 +253,7 @@ impl State {
     }
 }
 
-// Does what was said, over what stands now.
+// Runs a line again, over what stands now.
 fn do_again(
     alloc: Global,
     declared: &MappingList,
@@ -272,7 +272,7 @@ fn do_again(
     }
 }
 
-// These updates are undone, or not any more.
+// Marks these updates as undone, or as not undone.
 fn set_undone(
     places: &BTreeMap<u32, usize>,
     held: &mut HeldList,
@@ -316,7 +316,7 @@ fn forget_answers(alloc: Global, events: &mut Vec<Event>, held: &mut HeldList, p
     }
 }
 
-// What waited at the last fold, of the updates that are held.
+// The held updates that waited at the last fold.
 fn first_waiting(alloc: Global, held: &HeldList) -> Result<WaitingList, Memory> {
     let mut waiting = WaitingList::new(alloc);
     for (place, held) in held.iter().enumerate() {
@@ -338,14 +338,14 @@ fn status_in(statuses: &[Status], place: usize) -> Status {
     statuses.get(place).copied().unwrap_or(Status::GivenUp)
 }
 
-// Updates that stand, with the place that each one held has among them, if it stands.
+// Updates that stand, and for each held update its place among them, if it stands.
 #[derive(Drop)]
 struct ByHeld<'a> {
     order: &'a StandingList,
     places: Vec<Option<usize>>,
 }
 
-// These updates that stand, of so many that are held.
+// The updates in `order`; `count` is the number of held updates.
 fn by_held(alloc: Global, order: &StandingList, count: usize) -> Result<ByHeld<'_>, Memory> {
     let mut places = Vec::new(alloc);
     for _ in 0..count {
@@ -360,7 +360,7 @@ fn by_held(alloc: Global, order: &StandingList, count: usize) -> Result<ByHeld<'
 }
 
 impl<'a> ByHeld<'a> {
-    // What the update at this place wrote, if it stands.
+    // The writes of the update held at this place, if it stands.
     fn writes(&self, held: usize) -> Option<&'a WriteList> {
         let place = self.places.get(held).copied().unwrap_or(None)?;
         let standing = self.order.get(place)?;
@@ -396,7 +396,7 @@ fn is_among(numbers: &NumberList, number: u32) -> bool {
     numbers.as_slice().iter().any(|other| *other == number)
 }
 
-// Whether the update at this place wrote the same in both.
+// Whether the update held at this place wrote the same before and after.
 fn same_writes(was: &ByHeld<'_>, is: &ByHeld<'_>, place: usize) -> bool {
     match (was.writes(place), is.writes(place)) {
         (Some(old), Some(new)) => same_list(old, new),

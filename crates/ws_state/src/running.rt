@@ -17,7 +17,7 @@ use ws_names::Places;
 use ws_run::{Mark, Reason};
 
 impl World {
-    /// Runs the update at this place with these answers, and lets it stand or wait. It tells why it waits, if it does.
+    /// Runs the update at this place with these answers, and lets it stand or wait. Returns the reason if it waits.
     #[tactic(auto, using(crate::proofs::Staying::looked, crate::proofs::Staying::same_on, crate::proofs::Staying::run_on))]
     pub fn run_again(
         &mut self,
@@ -50,7 +50,7 @@ impl World {
         }
     }
 
-    // It stands and waits no more, with the mapping that it puts in force or takes away.
+    // Lets the update stand, with the mapping that it puts in force or takes away. It does not wait any more.
     #[tactic(auto, using(crate::proofs::Staying::more_stands))]
     fn let_stand(
         &mut self,
@@ -68,7 +68,7 @@ impl World {
         Ok(())
     }
 
-    // It waits, and what it did is taken back.
+    // Takes back what the update did, and lets it wait.
     fn let_wait(
         &mut self,
         alloc: Global,
@@ -85,7 +85,7 @@ impl World {
         Ok(())
     }
 
-    /// Runs it for a look: what stands stays as it is, and so does its table.
+    /// Runs the update only to look: what stands and the update's table stay as they are.
     #[tactic(auto, using(crate::proofs::Staying::looked))]
     pub fn look(
         &mut self,
@@ -104,7 +104,8 @@ impl World {
         Ok(tried)
     }
 
-    /// An update that waits takes the answer if it asks its question, in place of those that did not fit, and runs again.
+    /// Gives an update that waits an answer, if it asks that question, in place of the answers that did not fit, and runs it
+    /// again.
     #[tactic(auto, using(crate::proofs::Staying::same_on, crate::proofs::Staying::same_then_on))]
     pub fn take_answer(
         &mut self,
@@ -132,7 +133,7 @@ impl World {
         Ok(reason)
     }
 
-    /// An update that waits runs again, with the answers that fit.
+    /// Runs an update that waits again, with the answers that fit.
     #[tactic(auto, using(crate::proofs::Staying::same_on, crate::proofs::Staying::same_then_on))]
     pub fn retry(
         &mut self,
@@ -178,7 +179,7 @@ impl World {
     }
 }
 
-// What waits for a mapping that is gone, or to put one in force that is in force, is given up.
+// Gives up the updates that wait for a mapping that is gone, or to put a mapping in force that is in force already.
 fn sweep(
     alloc: Global,
     held: &HeldList,
@@ -198,14 +199,14 @@ fn is_given_up(held: &HeldList, in_force: &List<u16>, gone: &List<u16>, waiting:
     }
 }
 
-// The answers and one more.
+// The answers with one more.
 fn with_one(alloc: Global, answers: GivenList, given: &Given) -> Result<GivenList, Memory> {
     let mut answers = answers;
     answers.push(given.copy(alloc)?)?;
     Ok(answers)
 }
 
-// A mapping that the update at this place puts in force or takes away.
+// Puts the mapping of the update at this place in force, or takes it away.
 fn enforce(
     alloc: Global,
     held: &HeldList,
@@ -223,14 +224,14 @@ fn enforce(
     }
 }
 
-// The table of the update at this place.
+// Keeps the table of the update at this place.
 fn keep_places(held: &mut HeldList, place: usize, places: Places) {
     if let Some(held) = held.get_mut(place) {
         drop(mem::replace(&mut held.places, places));
     }
 }
 
-// Whether it is the question that the answer was given to.
+// Whether the update asks the question that the answer was given to.
 fn asks_it(reason: &Option<Reason>, given: &Given) -> bool {
     match reason {
         Some(Reason::Asks(question)) => {

@@ -15,8 +15,7 @@ use ws_lines::{Given, GivenList, Line, Table, TableList, Update};
 use ws_names::{Names, Places};
 use ws_run::{Ground, Reason};
 
-/// What is held of an update: whether it is undone, its table of places, and the answers that it had at the last fold, if it waited
-/// then.
+/// What is held of an update: whether it is undone, its table of places, and its answers at the last fold, if it waited then.
 #[derive(Drop)]
 pub struct Held {
     pub update: Update,
@@ -25,10 +24,10 @@ pub struct Held {
     pub first: Option<GivenList>,
 }
 
-/// Updates, those that waited at the last fold first, and then those of the log.
+/// Held updates: first the updates that waited at the last fold, then the updates of the log.
 pub type HeldList = Vec<Held>;
 
-/// What a line of the log did that runs again at a replay, by the places of the updates that are held.
+/// What a line of the log did, if a replay runs it again. Updates are given by their places among the held updates.
 #[derive(Drop)]
 pub(crate) enum Said {
     Update(usize),
@@ -36,14 +35,14 @@ pub(crate) enum Said {
     Go(usize),
 }
 
-/// Such a line, and whether its answer was taken back.
+/// A line that a replay runs again, and whether its answer was taken back.
 #[derive(Drop)]
 pub(crate) struct Event {
     pub said: Said,
     pub is_forgotten: bool,
 }
 
-/// A place in the log: how much was written and how many updates stood by then.
+/// A place in the log: how much was written and how many updates stood there.
 #[derive(Clone, Copy)]
 pub struct Mark {
     pub(crate) last: u32,
@@ -51,7 +50,7 @@ pub struct Mark {
     pub(crate) order: usize,
 }
 
-/// What is told of a line: how its update stands, and why it waits, if it does; and what an undo or redo changed.
+/// The report of a line: the status of its update; the reason if it waits; and what an undo or redo changed.
 #[derive(Drop)]
 pub struct Told {
     pub status: Option<Status>,
@@ -59,8 +58,9 @@ pub struct Told {
     pub replayed: Option<Replayed>,
 }
 
-/// The state that a log stands for. What stood before the update that was said last is kept until another line runs; and whether a
-/// mapping was declared once more since all lines were replayed, so that a replay may give something else than what stands.
+/// The state that a log stands for. `latest` keeps what stood before the latest update, until another line runs. `redeclared`
+/// says whether a mapping was declared once more since the last replay, so that a replay may give something else than what
+/// stands.
 #[derive(Drop)]
 pub struct State {
     pub(crate) tables: TableList,
@@ -78,7 +78,7 @@ pub struct State {
 }
 
 impl State {
-    /// The state of a workspace without a line.
+    /// The state of a workspace without any line.
     pub fn new(alloc: Global) -> State {
         let ground = Ground::new(alloc, IndexedFacts::new(alloc), Names::new(alloc));
         State {
@@ -97,7 +97,7 @@ impl State {
         }
     }
 
-    /// Does what the line says, and tells of it. If it is refused, the state is of no use.
+    /// Does what the line says, and reports it. After a refusal, the state is of no use.
     #[tactic(auto, using(crate::proofs::Staying::gone_on, crate::proofs::Staying::same_on, crate::proofs::Telling::none_told, crate::proofs::Telling::fold_told, crate::proofs::Telling::any_told))]
     pub fn take(&mut self, alloc: Global, line: Line) -> Result<Told, Memory>
         ensures fold { OnOk result (what_stood self.new ≡ what_stood self.old) }
@@ -126,7 +126,7 @@ impl State {
         }
     }
 
-    // An update is said: it runs without answers.
+    // Says an update: it runs without answers.
     #[tactic(auto, using(crate::proofs::Telling::waits_told))]
     fn say(&mut self, alloc: Global, update: Update) -> Result<Told, Memory>
         ensures goes_on { OnOk result (HasGoneOn self.old self.new) }
@@ -156,7 +156,7 @@ impl State {
         Ok(self.told(place, reason))
     }
 
-    // An update that waits is given an answer.
+    // Gives an update that waits an answer.
     #[tactic(auto, using(crate::proofs::Telling::waits_told))]
     fn answer(&mut self, alloc: Global, number: u32, given: Given) -> Result<Told, Memory>
         ensures goes_on { OnOk result (HasGoneOn self.old self.new) }
@@ -179,7 +179,7 @@ impl State {
         }
     }
 
-    // An update that waits is told to try again.
+    // Lets an update that waits try again.
     #[tactic(auto, using(crate::proofs::Telling::waits_told))]
     fn go(&mut self, alloc: Global, number: u32) -> Result<Told, Memory>
         ensures goes_on { OnOk result (HasGoneOn self.old self.new) }
@@ -197,7 +197,7 @@ impl State {
         Ok(self.told(place, reason))
     }
 
-    // What is told of the update that is held at this place.
+    // The report of the update held at this place.
     fn told(&self, place: usize, reason: Option<Reason>) -> Told
         ensures reason { result.reason ≡ reason }
     {
@@ -208,8 +208,8 @@ impl State {
         }
     }
 
-    /// Why the update of this number does not stand, if it waits, over what stands now; None if it does not wait or nothing is in
-    /// its way. The state stays as it is.
+    /// The reason why the update with this number waits, over what stands now. None if it does not wait, or if nothing is in its
+    /// way. The state stays as it is.
     pub fn ask(&mut self, alloc: Global, number: u32) -> Result<Option<Reason>, Memory>
         ensures stands { OnOk result (what_stands self.new.world ≡ what_stands self.old.world) }
         ensures waiting { OnOk result
@@ -228,12 +228,12 @@ impl State {
         Ok(ran.reason())
     }
 
-    /// The place of the update of this number among those that are held.
+    /// The place of the update with this number among the held updates.
     pub(crate) fn place_of(&self, number: u32) -> Option<usize> {
         self.places.get(&number).copied()
     }
 
-    /// How the update of this number stands; None if there is none.
+    /// The status of the update with this number; None if there is none.
     pub fn status(&self, number: u32) -> Option<Status> {
         match self.place_of(number) {
             Some(place) => Some(self.status_at(place)),
@@ -249,7 +249,7 @@ impl State {
         }
     }
 
-    /// How the update at this place stands.
+    /// The status of the update at this place.
     pub(crate) fn status_at(&self, place: usize) -> Status {
         if self.is_undone_at(place) {
             return Status::Undone;
@@ -257,7 +257,7 @@ impl State {
         if self.world.waiting_place(place).is_some() {
             return Status::Waits;
         }
-        // Mostly it is the last one.
+        // Mostly the update is the last one, so the search begins there.
         let mut order = self.world.order.as_slice().iter().rev();
         if order.any(|standing| standing.held == place) {
             return Status::Stands;
@@ -266,7 +266,7 @@ impl State {
     }
 }
 
-// What was said runs again at a replay.
+// Notes a line that a replay runs again.
 fn note(events: &mut Vec<Event>, said: Said) -> Result<(), Memory> {
     events.push(Event {
         said,
@@ -275,7 +275,7 @@ fn note(events: &mut Vec<Event>, said: Said) -> Result<(), Memory> {
     Ok(())
 }
 
-// The relation is declared, anew if there is one of that name.
+// Declares a relation. It takes the place of one with the same name.
 fn declare_table(tables: &mut TableList, table: Table) -> Result<(), Memory> {
     match table_among(tables, table.name.as_slice()) {
         Some(number) => put(tables, number as usize, table),
@@ -284,7 +284,7 @@ fn declare_table(tables: &mut TableList, table: Table) -> Result<(), Memory> {
     Ok(())
 }
 
-// The mapping is declared, anew if there is one of that name, which is told.
+// Declares a mapping. Returns whether it took the place of one with the same name.
 fn declare_mapping(mappings: &mut MappingList, mapping: Mapping) -> Result<bool, Memory> {
     match mapping_among(mappings, mapping.name.as_slice()) {
         Some(number) => {
@@ -310,19 +310,19 @@ fn mapping_among(mappings: &MappingList, name: &[u8]) -> Option<u16> {
     u16::try_from(place).ok()
 }
 
-/// The count as the number of a relation or a mapping; the greatest if there is none so great.
+/// The count as the number of a relation or a mapping; the greatest number if it is greater.
 pub(crate) fn small(count: usize) -> u16 {
     u16::try_from(count).unwrap_or(u16::MAX)
 }
 
-/// Puts the item in place of the one that is there.
+/// Puts the item in place of the one there, if there is one.
 pub(crate) fn put<T: Drop>(list: &mut List<T>, place: usize, item: T) {
     if place < list.len() {
         list.put(place, item);
     }
 }
 
-/// Nothing is told.
+/// An empty report.
 pub(crate) fn nothing_told() -> Told
     ensures reason { result.reason ≡ None }
 {
@@ -351,22 +351,22 @@ impl State {
         self.world.in_force.as_slice()
     }
 
-    /// Whether the mapping of this number is gone.
+    /// Whether the mapping with this number is gone.
     pub fn is_gone(&self, mapping: u16) -> bool {
         self.world.is_gone(mapping)
     }
 
-    /// The number of the relation of this name; None if there is none.
+    /// The number of the relation with this name; None if there is none.
     pub fn table_number(&self, name: &[u8]) -> Option<u16> {
         table_among(&self.tables, name)
     }
 
-    /// The number of the mapping of this name, gone or not; None if there is none.
+    /// The number of the mapping with this name, gone or not; None if there is none.
     pub fn mapping_number(&self, name: &[u8]) -> Option<u16> {
         mapping_among(&self.mappings, name)
     }
 
-    /// The tuples, whose nulls are those within.
+    /// The tuples, with their nulls within.
     pub fn facts(&self) -> &IndexedFacts {
         &self.world.ground.facts
     }
@@ -376,18 +376,18 @@ impl State {
         &self.world.ground.names
     }
 
-    /// The tuples by names, in the order of those within.
+    /// The tuples by names, in the order of the tuples within.
     pub fn visible(&self, alloc: Global) -> Result<TupleList, Memory> {
         let tuples = self.world.ground.facts.list(alloc)?;
         self.names().tuples(alloc, tuples.as_slice())
     }
 
-    /// The updates that are held: those that waited at the last fold, and those of the log.
+    /// The updates that waited at the last fold, and the updates of the log.
     pub fn held(&self) -> &HeldList {
         &self.held
     }
 
-    /// The update of this number; None if it is not held.
+    /// The update with this number; None if it is not held.
     pub fn update(&self, number: u32) -> Option<&Update> {
         let held = self.held.get(self.place_of(number)?)?;
         Some(&held.update)
@@ -408,7 +408,7 @@ impl State {
         self.last
     }
 
-    /// Where the log is, so that the effect of what comes can be told.
+    /// The present place in the log, from which the effect of later lines is measured.
     pub fn mark(&self) -> Mark {
         Mark {
             last: self.world.ground.last,

@@ -15,7 +15,7 @@ use ws_lines::{Deed, GivenList, Update};
 use ws_names::{Names, Places};
 use ws_run::{Ground, InForce, Op, OpList, Reason, Setting, Thread, image_for, run_deed};
 
-/// An update that runs, by its place among those that are held, with its answers.
+/// An update to run, by its place among the held updates, with its answers.
 #[derive(Clone, Copy)]
 pub(crate) struct Turn<'a> {
     pub place: usize,
@@ -23,7 +23,7 @@ pub(crate) struct Turn<'a> {
     pub answers: &'a GivenList,
 }
 
-/// Runs the update over what stands. If it is not done, what its ops did has to be taken back.
+/// Runs the update over what stands. If it is not done, the caller must take back what its ops did.
 #[tactic(auto, using(crate::proofs::Staying::none_run))]
 pub(crate) fn run_turn(
     alloc: Global,
@@ -45,7 +45,7 @@ pub(crate) fn run_turn(
     }
 }
 
-// A mapping comes into force if it has no violation, as an op of its own.
+// Puts a mapping in force, as an op of its own, if it has no violation.
 #[tactic(auto, using(crate::proofs::Staying::none_run, ws_ground::proofs::Trailing::none_made))]
 fn run_force(
     alloc: Global,
@@ -118,10 +118,10 @@ fn run_ops(
     run_over(alloc, &setting, &mut world.ground, turn, places)
 }
 
-// The most steps that a budget has.
+// The greatest budget.
 const MOST_STEPS: u32 = 1_000_001;
 
-// A budget of one step more than so many, as far as budgets go.
+// A budget of one step more than `steps`, at most the greatest.
 fn budget_for(steps: u32) -> Budget {
     if steps < MOST_STEPS {
         return Budget::new(steps + 1);
@@ -152,7 +152,7 @@ fn run_over(
     }
 }
 
-// The image of the mapping that the update repairs, for which it does, if it is a repair and its unknowns are there.
+// The image of the mapping's left side that a repair is for; empty if the update is no repair, or if an unknown is not there.
 fn image_of(
     alloc: Global,
     setting: &Setting<'_>,
@@ -168,7 +168,7 @@ fn image_of(
     }
 }
 
-// The values with the nulls that their names stand for, if all are there.
+// The values with the nulls that their names stand for; None if one of them is not there.
 fn inner_values(
     alloc: Global,
     names: &Names,

@@ -1,4 +1,4 @@
-//! What is seen to come and go at a replay.
+//! The tuples that people see come and go at a replay.
 
 use crate::ways::put;
 use base_types::{Memory, Tuple, TupleList};
@@ -6,14 +6,14 @@ use std::alloc::Global;
 use std::collections::BTreeMap;
 use ws_run::{Ground, Touched, WANT};
 
-/// What is other than at the last fold: the tuples that came and went since, by names, each with what it is within.
+/// How what stands differs from the last fold: the tuples that came and went since, by names, each with its form within.
 #[derive(Drop)]
 pub(crate) struct Visible {
     came: BTreeMap<Tuple, Tuple>,
     went: BTreeMap<Tuple, Tuple>,
 }
 
-/// What is other by now than at the last fold.
+/// How what stands now differs from the last fold.
 pub(crate) fn visible_of(alloc: Global, ground: &Ground) -> Result<Visible, Memory> {
     let mut touched = Touched::new(alloc);
     touched.made(ground.trail.as_slice())?;
@@ -34,7 +34,7 @@ pub(crate) fn visible_of(alloc: Global, ground: &Ground) -> Result<Visible, Memo
     Ok(visible)
 }
 
-/// The tuples that are seen in the second and not in the first, by names, in the order of what they are within.
+/// The tuples that are seen in `new` and not in `old`, by names, in the order of their forms within.
 pub(crate) fn came_between(
     alloc: Global,
     old: &Visible,

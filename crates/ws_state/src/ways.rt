@@ -1,4 +1,4 @@
-//! By which mapping tuples came and went.
+//! The mappings by which tuples came and went.
 
 use crate::worlds::Standing;
 use base_types::{Facts, Memory, Tuple, ValueList};
@@ -8,7 +8,7 @@ use std::collections::BTreeMap;
 use ws_lines::Source;
 use ws_run::{Ground, Step, Taking, follow};
 
-/// The mapping by which the tuple came or went, if it did by one.
+/// The mapping by which the tuple came or went; None if it was no mapping.
 pub(crate) fn by_of(by: &BTreeMap<Tuple, Source>, tuple: &Tuple) -> Option<u16> {
     match by.get(tuple) {
         Some(Source::By(mapping)) => Some(*mapping),
@@ -18,7 +18,7 @@ pub(crate) fn by_of(by: &BTreeMap<Tuple, Source>, tuple: &Tuple) -> Option<u16> 
     }
 }
 
-/// The tuples that came or went by a mapping, with it.
+/// The tuples that came or went because of a source, each with that source.
 pub(crate) fn ways_of(
     alloc: Global,
     ground: &Ground,
@@ -31,7 +31,7 @@ pub(crate) fn ways_of(
     Ok(by)
 }
 
-// Notes the tuples that came or went by a mapping in one run.
+// Notes the tuples that came or went because of a source in one run.
 fn note_ways(
     alloc: Global,
     ground: &Ground,
@@ -77,7 +77,7 @@ fn note_takes(step: &Step, by: &mut BTreeMap<Tuple, Source>) -> Result<(), Memor
     Ok(())
 }
 
-// A tuple that the step made of another came by what that one came by.
+// A rewritten tuple came by the source of the tuple that it was.
 fn note_puts(
     alloc: Global,
     step: &Step,
@@ -94,7 +94,7 @@ fn note_puts(
     Ok(())
 }
 
-// By what the tuple came that the step made this one of.
+// The source of the tuple that the step rewrote into `tuple`.
 fn source_before(
     alloc: Global,
     step: &Step,
@@ -112,7 +112,7 @@ fn source_before(
     Ok(None)
 }
 
-// What the step made of the tuple.
+// What the tuple becomes by the step.
 fn rewritten(alloc: Global, step: &Step, tuple: &Tuple) -> Result<Tuple, Memory> {
     let mut values = ValueList::new(alloc);
     for value in tuple.values.as_slice() {

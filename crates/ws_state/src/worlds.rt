@@ -1,4 +1,4 @@
-//! What stands: the tuples, the mappings in force, the updates that stand in their order, and those that wait.
+//! What stands: the tuples, the mappings in force, the updates that stand in their order, and the updates that wait.
 ghost use Rattle.std.specs.Prelude.{◌≡◌, IfOk};
 
 use crate::states::put;
@@ -8,7 +8,7 @@ use std::mem;
 use ws_lines::{Deed, GivenList};
 use ws_run::{Ground, OpList, StepList};
 
-/// How an update stands: it does, it waits, it is undone, or it was given up.
+/// The status of an update: it stands, it waits, it is undone, or it was given up.
 #[derive(Clone, Copy, Debug, PartialEq, Eq)]
 pub enum Status {
     Stands,
@@ -17,8 +17,8 @@ pub enum Status {
     GivenUp,
 }
 
-/// An update that stands, by its place among those that are held: the answers that it took, its ops and steps, the image of the
-/// mapping that it repairs, if it is a repair, and what it wrote, by names.
+/// An update that stands, by its place among the held updates: the answers that it took, its ops and steps, the image that it
+/// repairs for, if it is a repair, and its writes by names.
 #[derive(Drop)]
 pub struct Standing {
     pub held: usize,
@@ -32,7 +32,7 @@ pub struct Standing {
 /// Updates that stand, in the order in which they came to stand.
 pub type StandingList = List<Standing>;
 
-/// An update that waits, by its place among those that are held, with the answers that it has.
+/// An update that waits, by its place among the held updates, with the answers that it has.
 #[derive(Drop)]
 pub struct Waiting {
     pub held: usize,
@@ -70,7 +70,7 @@ pub(crate) struct World {
 }
 
 impl World {
-    /// The tuples, with these mappings in force, and nothing that stands or waits.
+    /// These tuples and mappings in force; no update stands or waits.
     pub fn new(alloc: Global, ground: Ground, in_force: List<u16>) -> World {
         World {
             ground,
@@ -91,12 +91,12 @@ impl World {
         is_among(&self.gone, mapping)
     }
 
-    /// The place among those that wait of the update that is held at this place.
+    /// The place among the waiting updates of the one held at this place.
     pub fn waiting_place(&self, held: usize) -> Option<usize> {
         place_among(&self.waiting, held)
     }
 
-    /// The answers of the update that is held at this place, if it waits.
+    /// The answers of the update held at this place; None if it does not wait.
     pub fn answers_of(&self, alloc: Global, held: usize) -> Result<Option<GivenList>, Memory> {
         let mut waiting = self.waiting.as_slice().iter();
         match waiting.find(|waiting| waiting.held == held) {
@@ -105,13 +105,13 @@ impl World {
         }
     }
 
-    /// The update waits with these answers: in its place if it waited, else as the last.
+    /// Lets the update wait with these answers: at its place if it waited already, else as the last.
     pub fn wait(&mut self, held: usize, answers: GivenList) -> Result<(), Memory> {
         wait_among(&mut self.waiting, held, answers)
     }
 }
 
-/// The mapping that the update speaks of, if it is among those that are gone.
+/// The mapping that the update speaks of, if it is in `gone`.
 pub(crate) fn gone_of(gone: &List<u16>, deed: &Deed) -> Option<u16> {
     let mapping = match deed {
         Deed::Fix(mapping, _) => *mapping,
@@ -125,7 +125,7 @@ pub(crate) fn gone_of(gone: &List<u16>, deed: &Deed) -> Option<u16> {
     None
 }
 
-/// Whether such an update, if it waits, is given up, where these mappings are in force and gone.
+/// Whether an update with this deed is given up if it waits, given the mappings in force and gone.
 pub(crate) fn gives_up(in_force: &List<u16>, gone: &List<u16>, deed: &Deed) -> bool {
     match deed {
         Deed::Force(mapping) => is_among(gone, *mapping) || is_among(in_force, *mapping),
@@ -133,7 +133,7 @@ pub(crate) fn gives_up(in_force: &List<u16>, gone: &List<u16>, deed: &Deed) -> b
     }
 }
 
-/// Puts a mapping in force, after the others, unless it is.
+/// Puts a mapping in force, after the others, unless it is in force.
 pub(crate) fn put_in_force(in_force: &mut List<u16>, mapping: u16) -> Result<(), Memory> {
     if !is_among(in_force, mapping) {
         in_force.push(mapping)?;
@@ -155,7 +155,7 @@ pub(crate) fn drop_mapping(
     Ok(())
 }
 
-/// The update waits among these, in its place if it waited, else as the last.
+/// Lets the update wait in this list: at its place if it waited already, else as the last.
 pub(crate) fn wait_among(
     list: &mut WaitingList,
     held: usize,
@@ -169,14 +169,14 @@ pub(crate) fn wait_among(
     Ok(())
 }
 
-/// The update waits no more.
+/// Takes the update from the updates that wait.
 pub(crate) fn wait_no_more(alloc: Global, list: &mut WaitingList, held: usize) {
     let mut kept = mem::replace(list, WaitingList::new(alloc)).into_vec();
     kept.retain(|waiting| waiting.held != held);
     *list = WaitingList::from_vec(kept);
 }
 
-// The place among these of the update that is held at this place.
+// The place in this list of the update held at this place.
 fn place_among(list: &WaitingList, held: usize) -> Option<usize> {
     let mut waiting = list.as_slice().iter();
     waiting.position(|waiting| waiting.held == held)
