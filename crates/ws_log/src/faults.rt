@@ -1,4 +1,4 @@
-// Why a call on the log of a file has no answer.
+// Why a call on a file's log has no answer.
 use def_memory::Memory;
 use std::alloc::Global;
 use std::io;
@@ -6,7 +6,7 @@ use std::io::ErrorKind;
 use ws_file::{FileDisk, OpenFault};
 use ws_seal::{AppendFault, Damage, MakeFault, ReadFault};
 
-/// Why a call on the log of a file has no answer.
+/// Why a call on a file's log has no answer.
 #[derive(Clone, Copy, Debug)]
 pub enum Fault {
     /// No file has the name.
@@ -17,15 +17,15 @@ pub enum Fault {
     Unreadable(io::Error),
     /// The system refused the lock.
     NotLocked(io::Error),
-    /// Other processes had the file in hand all the time.
+    /// Other processes held the file all the time.
     InUse,
     /// The file cannot be written. A text that was being appended may be there or not.
     Unwritable(io::Error),
     /// The file is damaged.
     Damaged(Damage),
-    /// A text of so many bytes is too large. The log is as it was.
+    /// The text is too large; this is its number of bytes. The log is as it was.
     TooLarge(u64),
-    /// Memory was wanting. A text that was being appended may be there or not.
+    /// Memory ran out. A text that was being appended may be there or not.
     Memory,
 }
 
@@ -63,7 +63,7 @@ fn cause(disk: &FileDisk) -> io::Error {
     disk.reason().unwrap_or(io::Error::from(ErrorKind::Other))
 }
 
-/// The fault of a disk that was not read, of which this many texts were read before, up to the base.
+/// The fault of a disk that could not be read; `known` is the number of texts that were read before, up to the disk's base.
 pub(crate) fn not_read(disk: &FileDisk, fault: ReadFault, known: u64) -> Fault {
     match fault {
         ReadFault::DiskFault => Fault::Unreadable(cause(disk)),
@@ -77,7 +77,7 @@ pub(crate) fn not_read(disk: &FileDisk, fault: ReadFault, known: u64) -> Fault {
     }
 }
 
-/// The fault of a disk to which nothing was appended.
+/// The fault of a disk to which nothing could be appended.
 pub(crate) fn not_appended(disk: &FileDisk, fault: AppendFault) -> Fault {
     match fault {
         AppendFault::TooLarge(size) => Fault::TooLarge(size),
@@ -86,7 +86,7 @@ pub(crate) fn not_appended(disk: &FileDisk, fault: AppendFault) -> Fault {
     }
 }
 
-/// The fault of a disk that was not written.
+/// The fault of a disk that could not be written.
 pub(crate) fn not_written(disk: &FileDisk) -> Fault {
     match disk.reason() {
         Some(error) => Fault::Unwritable(error),
@@ -94,7 +94,7 @@ pub(crate) fn not_written(disk: &FileDisk) -> Fault {
     }
 }
 
-/// The system's word for an error, in small letters, as `permission denied`.
+/// The system's words for an error, in small letters, such as `permission denied`.
 pub fn reason(alloc: Global, error: &io::Error) -> Result<String, Memory> {
     let words = format!(in alloc; "{error}")?;
     let end = words.find(" (os error ").unwrap_or(words.len());

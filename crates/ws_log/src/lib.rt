@@ -1,7 +1,7 @@
-//! The log of a workspace in its file: opened, made, appended to, folded, and read on by a process that stays.
+//! The log of a workspace in its file: it is opened, created, appended to, folded, and read on by a process that stays.
 //!
-//! Each call that changes the file holds the exclusive lock, each that reads it a shared one. Nothing is written by a call that
-//! reads. What is acknowledged lasts; after a call of the system that failed the file is given up.
+//! A call that changes the file holds the exclusive lock; a call that reads it holds a shared one, and writes nothing. What is
+//! acknowledged lasts. After a system call fails, the process gives the file up.
 #![tactic(auto)]
 
 mod faults;

@@ -1,4 +1,4 @@
-// A log in hand, and one that rests.
+// A log that is in hand, and a log at rest.
 ghost use Rattle.std.specs.Prelude.{◌≡◌, ◌++◌, ◌∷◌, [], ℕ, List, IfOk};
 ghost use Rattle.ws_file.specs.Files.{bytes_of, state_of};
 ghost use Rattle.base_roll.specs.Rolls.{IsInHand};
@@ -36,8 +36,8 @@ impl Model for OpenLog {
     ghost invariant = { λ s. IsInHand (state_of s.log.disk) (record { gate = s.log.gate }) };
 }
 
-/// A log that this process has read, and let go of: the file, the place of its gate, the mark of the last text, and how many were
-/// read.
+/// A log that this process has read and released: the file, the place of its gate, the mark of the last text, and the number of
+/// texts that were read.
 #[derive(Drop)]
 pub struct RestingLog {
     pub(crate) released: Released,
@@ -46,7 +46,7 @@ pub struct RestingLog {
     pub(crate) count: u64,
 }
 
-/// The log of a disk on which nothing is pending, from its gate on. What stands before the gate is let go.
+/// The log of a disk from its gate on; nothing is pending on the disk. The bytes before the gate are dropped.
 pub(crate) fn from_gate(disk: FileDisk, gate: usize, mark: Mark) -> Result<Log<FileDisk>, Memory>
     requires gate { HasGateAt gate (bytes_of disk) }
     requires settled { IsSettled (state_of disk) }
@@ -65,7 +65,7 @@ pub(crate) fn from_gate(disk: FileDisk, gate: usize, mark: Mark) -> Result<Log<F
 }
 
 impl OpenLog {
-    /// The log in hand, of so many texts.
+    /// The log in hand, with its number of texts.
     pub(crate) fn of(log: Log<FileDisk>, count: u64) -> OpenLog
         requires { IsInHand (state_of log.disk) (record { gate = log.gate }) }
         ensures { result ≡ record {
@@ -78,15 +78,15 @@ impl OpenLog {
         OpenLog { log, count }
     }
 
-    /// How many texts it has, the head among them.
+    /// The number of texts, with the head.
     pub fn count(&self) -> u64
         ensures { result ≡ self.now.count }
     {
         self.count
     }
 
-    /// Appends a text. At `Ok` it is acknowledged: from then on each crash leaves a log that has it. After a fault it may be there
-    /// or not, and the file is given up.
+    /// Appends a text. At `Ok` it is acknowledged: from then on, each crash leaves a log that has it. After a fault it may be
+    /// there or not, and the log is given up.
     pub fn append(self, alloc: Global, text: &[u8]) -> Result<OpenLog, Fault>
         ensures acknowledged { (before m : List ℕ) (texts : List (List ℕ))
             → IsHeld before m texts (state_of self.disk) self.gate self.mark
@@ -100,7 +100,7 @@ impl OpenLog {
         }
     }
 
-    /// Lets go of the lock. The file stays open, so that a fold of another process is seen.
+    /// Releases the lock. The file stays open, so that a fold by another process is noticed.
     pub fn release(self) -> Result<RestingLog, Fault> {
         let OpenLog { log, count } = self;
         let Log { disk, gate, mark } = log;

@@ -1,4 +1,4 @@
-// A log is made, and folded.
+// Creating a log, and folding one.
 ghost use Rattle.std.specs.Prelude.{◌≡◌, [], IfOk};
 ghost use Rattle.ws_file.specs.Files.{just_opened};
 ghost use Rattle.ws_seal.specs.Logs.{HasGateAt};
@@ -10,8 +10,8 @@ use std::path::Path;
 use ws_file::{FileDisk, MadeFile, make_beside};
 use ws_seal::{LogText, log_text};
 
-/// Makes a log of the head and these texts in a new file of the name: beside it first, synced, then linked to it, and the folder
-/// synced. `Taken` if a file has the name. The log is in hand.
+/// Creates a log of the head and these texts in a new file at `path`. The log is written and synced beside it, then linked to its
+/// name, and the folder is synced. The error is `Taken` if a file has the name. At `Ok` the log is in hand.
 pub fn create(
     rt: &HostRuntime,
     path: &str,
@@ -25,9 +25,9 @@ pub fn create(
     Ok(log)
 }
 
-/// Makes a log of the head alone, in the place of the one that is in hand: beside it first, synced, then renamed to its name, and
-/// the folder synced. So a crash leaves the one log or the other. The new one is in hand. If the path is a link, the log is made in
-/// the place of the file that it leads to.
+/// Puts a log of the head alone in place of the one in hand. It is written and synced beside it, then renamed, and the folder is
+/// synced, so a crash leaves one log or the other. At `Ok` the new log is in hand. If the path is a link, the file that it leads
+/// to is replaced.
 pub fn fold(rt: &HostRuntime, path: &str, old: OpenLog, head: &[u8]) -> Result<OpenLog, Fault>
     ensures { IfOk result IsFresh }
 {
@@ -37,7 +37,7 @@ pub fn fold(rt: &HostRuntime, path: &str, old: OpenLog, head: &[u8]) -> Result<O
     }
 }
 
-// The file of this path gives way to the new one. The path is no link, or the link would give way.
+// Replaces the file of this path. The path is no link, or the link itself would be replaced.
 fn replaced(rt: &HostRuntime, path: &str, old: OpenLog, head: &[u8]) -> Result<OpenLog, Fault>
     ensures { IfOk result IsFresh }
 {

@@ -1,4 +1,4 @@
-// A log is opened, and read on.
+// Opening a log, and reading it on.
 ghost use Rattle.std.specs.Prelude.{IfOk};
 ghost use Rattle.base_devices.specs.States.{IsSettled};
 ghost use Rattle.ws_file.specs.Files.{bytes_of, state_of};
@@ -13,7 +13,7 @@ use std::time::Duration;
 use ws_file::{Access, FileDisk, Locked, lock, make_name_last};
 use ws_seal::{Texts, read_log, read_tail};
 
-/// A log in hand, and the texts that were read of it, in order.
+/// A log in hand, and the texts read from it, in order.
 #[derive(Drop)]
 pub struct Opened {
     pub log: OpenLog,
@@ -23,17 +23,17 @@ pub struct Opened {
 /// A log that was read on.
 #[derive(Drop)]
 pub enum Reopened {
-    /// The same file, with the texts that are new.
+    /// The same file, with its new texts.
     Same(Opened),
-    /// Another file has the path: all its texts, the head first.
+    /// Another file at the path, with all its texts, the head first.
     Another(Opened),
 }
 
-// The most texts of a log to which nothing was appended: the head, and that of the command which made it.
+// The most texts of a log to which nothing was appended: the head, and the text of the command that created it.
 const FIRST_TEXTS: u64 = 2;
 
-/// Opens the log in the file: locks it, waiting as long as it may, makes last what it has, and reads and checks all, the head
-/// first. It writes nothing. If it is opened for a change, its name lasts too.
+/// Opens the log in the file: waits for the lock, syncs what the file has, and reads and checks all texts, the head first. It
+/// writes nothing. If `access` is for a change, the file's name is synced too.
 pub fn open(rt: &HostRuntime, path: &str, access: Access, wait: Duration) -> Result<Opened, Fault>
     ensures { IfOk result (λ opened. IsFresh opened.log) }
 {
@@ -43,8 +43,8 @@ pub fn open(rt: &HostRuntime, path: &str, access: Access, wait: Duration) -> Res
     Ok(opened)
 }
 
-/// Opens again the log that this process let go of, and reads what is new; another file that has its path by now is read whole. If
-/// it is opened for a change, its name lasts too.
+/// Opens again the log that this process released, and reads its new texts. If another file is at the path by now, that one is
+/// read whole. If `access` is for a change, the file's name is synced too.
 pub fn reopen(
     rt: &HostRuntime,
     resting: RestingLog,
@@ -65,8 +65,8 @@ pub fn reopen(
     Ok(Reopened::Another(opened))
 }
 
-// Makes last the name of a log that is opened for a change, if nothing may have been appended to it: the process that gave the name
-// may have been killed before it did so. Whoever appended first has come through here, or made the log.
+// Syncs the name of a log that is opened for a change and may not have been appended to. The process that gave the name may have
+// been killed before it synced it. Whoever appended first came through here, or created the log.
 fn keep_name(rt: &HostRuntime, path: &str, access: Access, log: &OpenLog) -> Result<(), Fault> {
     if access == Access::Change && log.count() <= FIRST_TEXTS {
         make_name_last(rt, path)?;
@@ -94,7 +94,7 @@ fn read_new(alloc: Global, locked: Locked, resting: RestingLog) -> Result<Opened
     }
 }
 
-// What was read of the disk, with its gate in hand; so many texts were read before.
+// The log in hand, with what was read from the disk; `known` is the number of texts that were read before.
 fn in_hand(disk: FileDisk, found: Texts, known: u64) -> Result<Opened, Fault>
     requires gate { HasGateAt found.gate (bytes_of disk) }
     requires settled { IsSettled (state_of disk) }
