@@ -31,7 +31,7 @@ deed_of (FixMapping m vs) = Fixes m (map datum_of vs.items)
 deed_of (ForceMapping m) = Forces m
 deed_of (DropMapping m) = Drops m
 
--- Who said an update, and when, does not bear on what it does.
+-- Who said an update, and when, does not affect what it does.
 abbrev pub update_of : UpdateOfProgram → Update
 update_of u = record { number = u.number; steps = u.steps; deed = deed_of u.deed }
 

@@ -1,4 +1,4 @@
-//! Answers, and the questions that they were given to.
+//! Answers, and the questions that they answer.
 ghost use Rattle.std.specs.Prelude.{◌≡◌, IfOk};
 ghost use Rattle.def_workspace.specs.Lines.{Asked as AskedMeant, Given as GivenMeant};
 ghost use Rattle.ws_lines.specs.Meanings.{asked_of, given_of};
@@ -6,8 +6,8 @@ ghost use Rattle.ws_lines.specs.Meanings.{asked_of, given_of};
 use base_types::{Choice, List, Memory, TryCopy, TupleList};
 use std::alloc::Global;
 
-/// By what an update asks or draws an unknown: the mapping of this number; the hidden mapping by which that one is repaired
-/// (`_fix_m`); or the hidden mapping that draws new unknowns (`_new`).
+/// What asks, or draws an unknown, in an update: the mapping of this number; the hidden mapping that repairs it (`_fix_m`); or
+/// the hidden mapping that draws new unknowns (`_new`).
 #[derive(Clone, Copy, Debug, PartialEq, Eq)]
 pub enum Source {
     By(u16),
@@ -15,14 +15,14 @@ pub enum Source {
     Anew,
 }
 
-/// Which question it is: its mapping, and the wanted tuple, or the tuples of which some have to go, by names.
+/// Which question it is: its mapping, and by names its wanted tuple, or the tuples of which some must go.
 #[derive(Drop)]
 pub struct Asked {
     pub source: Source,
     pub tuples: TupleList,
 }
 
-/// An answer: the choice, whose tuples are by names, and the question that it was given to.
+/// An answer: the question that it answers, and the choice, whose tuples are by names.
 #[derive(Drop)]
 pub struct Given {
     pub choice: Choice,

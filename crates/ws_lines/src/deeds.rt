@@ -7,10 +7,9 @@ use crate::spelled::{SpelledTuple, SpelledTupleList};
 use base_types::{List, Memory, Name, NameList, Null, TryCopy, Tuple, TupleList, Value, ValueList};
 use std::alloc::Global;
 
-/// What an update does: insert tuples; delete tuples; put a value for an unknown, wherever it stands; put the second tuple for
-/// the first one; repair a mapping for these values of the variables that stand on both of its sides, in the order of their first
-/// places; put a mapping in force; or take a mapping away. Mappings have numbers, from 0 on, in the order in which they were
-/// declared.
+/// What an update does: insert tuples; delete tuples; replace an unknown by a value wherever it stands; replace the first tuple
+/// by the second; repair a mapping for these values of its shared variables, in the order of their first places; put a mapping in
+/// force; or take a mapping away. Shared variables stand on both sides. Mappings are numbered from 0, as they were declared.
 #[derive(Drop)]
 pub enum Deed {
     Insert(SpelledTupleList),
@@ -22,8 +21,8 @@ pub enum Deed {
     Drop(u16),
 }
 
-/// An update: its number, who said it and when, how many steps each of its ops may make, what it does, and the names of its
-/// new unknowns by number, each empty if a bare `?` stands for it.
+/// An update: its number, who said it and when, the number of steps that each op may make, what it does, and the names of its new
+/// unknowns by number. The name of a bare `?` is empty.
 #[derive(Drop)]
 pub struct Update {
     pub number: u32,

@@ -7,7 +7,7 @@ use crate::deeds::Update;
 use base_types::{List, Mapping, Memory, Name, NameList, NumberList, TryCopy};
 use std::alloc::Global;
 
-/// A relation: its name, its columns, and of each column whether it belongs to the key.
+/// A relation: its name, its columns, and for each column whether it belongs to the key.
 #[derive(Drop)]
 pub struct Table {
     pub name: Name,
@@ -18,8 +18,8 @@ pub struct Table {
 /// Relations by number.
 pub type TableList = List<Table>;
 
-/// A line of a log. An update is said; the update of a number is given an answer, or told to try again; updates are undone, done
-/// again, or lose the answers that they had up to here; a relation or a mapping is declared.
+/// A line of a log. It says an update, gives an update an answer, or lets one try again; it undoes updates, redoes them, or makes
+/// them lose the answers that they had up to here; or it declares a relation or a mapping.
 #[derive(Drop)]
 pub enum Line {
     Update(Update),

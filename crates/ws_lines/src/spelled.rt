@@ -6,7 +6,7 @@ ghost use Rattle.ws_lines.specs.Meanings.{spelled_of, spelled_fact_of};
 use base_types::{List, Memory, TryCopy, Value};
 use std::alloc::Global;
 
-/// A value of a line: one that is known there, or an unknown that is new with the line, by its number, from 1 on.
+/// A value of a line: a known one, or an unknown that is new with the line, given by its number, from 1 on.
 #[derive(Drop)]
 pub enum Spelled {
     Known(Value),
