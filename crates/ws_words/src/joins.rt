@@ -1,11 +1,11 @@
-//! Words as one line, and what is asked of words that may be at fault.
+//! Words as one line, and helpers for words that may be at fault.
 
 use crate::steps::fault_of;
 use std::alloc::{AllocError, Global};
 use ws_fault::Fault;
 use ws_print::Text;
 
-/// Words joined by blanks; none if there are none.
+/// The words joined by blanks; None if there are none.
 pub fn joined(alloc: Global, words: &[String]) -> Result<Option<String>, AllocError> {
     if words.is_empty() {
         return Ok(None);
@@ -19,7 +19,7 @@ pub fn joined(alloc: Global, words: &[String]) -> Result<Option<String>, AllocEr
     Ok(Some(line))
 }
 
-/// Whether `--json` stands among the words in front of the command, which may be at fault.
+/// Whether `--json` stands among the words before the command. The words may be at fault.
 pub fn wants_json(words: &[String]) -> bool {
     let mut files = 0u32;
     let mut is_value = false;
@@ -39,7 +39,7 @@ pub fn wants_json(words: &[String]) -> bool {
     false
 }
 
-/// The fault of words that have a verb in the place of the file; its hint is the words from that on, after FILE.
+/// The fault of words with a verb in place of the file; the hint puts FILE before the verb.
 pub fn file_first(alloc: Global, words: &[String], file: &str) -> Result<Fault, AllocError> {
     let place = words.iter().position(|w| w.as_str() == file);
     let from = words.get(place.unwrap_or(0)..).unwrap_or(words);

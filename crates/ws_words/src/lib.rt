@@ -1,7 +1,7 @@
-//! The words that the program is called with, and who speaks and when.
+//! The words that the program is called with, who calls it and when.
 //!
-//! The words are read by hand, since the command after FILE goes on with words that may look like options, and since each
-//! fault has its own words.
+//! The words are read by hand, because the command after FILE may have words that look like options, and because each fault has
+//! words of its own.
 #![tactic(auto)]
 
 mod joins;

@@ -15,12 +15,12 @@ pub enum Asked {
     Work(Words),
 }
 
-/// The file, how to work on it, and the command, if there is one.
+/// The file, the options, and the command, if there is one.
 #[derive(Drop)]
 pub struct Words {
     /// The name of `--as`.
     pub curator: Option<String>,
-    /// For how many seconds another process may have the file.
+    /// The number of seconds to wait for the file if another process has it.
     pub wait: u32,
     pub json: bool,
     pub keep_going: bool,
@@ -30,7 +30,7 @@ pub struct Words {
     pub command: Option<String>,
 }
 
-/// What the words after the program's name ask for. They are refused for the first fault from the left.
+/// Reads the words after the program's name. The error is the first fault from the left.
 pub fn read_words(alloc: Global, words: &[String]) -> Result<Asked, Refusal> {
     let mut front = Front::new();
     let mut rest = words;
@@ -48,7 +48,7 @@ pub fn read_words(alloc: Global, words: &[String]) -> Result<Asked, Refusal> {
     work_of(alloc, &front, rest)
 }
 
-// What the words in front of the command come to, with those of the command.
+// The work that the words before the command and the words of the command ask for.
 fn work_of(alloc: Global, front: &Front<'_>, command: &[String]) -> Result<Asked, Refusal> {
     let Some(file) = front.file else {
         return wrong(alloc, "a file is missing", USAGE);
@@ -81,7 +81,7 @@ fn seconds_of(wait: Option<&str>) -> Option<u32> {
     text.parse::<u32>().ok()
 }
 
-// Whether the name of `--as`, if it is given, is one.
+// Whether the name of `--as` is a curator's name, if there is one.
 fn is_curator(name: Option<&str>) -> bool {
     match name {
         Some(name) => is_name(name),

@@ -1,4 +1,4 @@
-//! The words in front of the command, one after the other.
+//! The words before the command, one after the other.
 
 use std::alloc::{AllocError, Global};
 use ws_fault::{Fault, Nearest, Refusal, Status};
@@ -14,7 +14,7 @@ const OPTIONS: [&str; 7] = [
     "--version",
 ];
 
-/// What the words in front of the command said.
+/// What the words before the command said.
 #[derive(Drop)]
 pub(crate) struct Front<'a> {
     pub(crate) curator: Option<&'a str>,
@@ -26,7 +26,7 @@ pub(crate) struct Front<'a> {
 }
 
 impl<'a> Front<'a> {
-    /// Nothing was said yet.
+    /// No word was read yet.
     pub(crate) fn new() -> Front<'a> {
         Front {
             curator: None,
@@ -66,7 +66,7 @@ pub(crate) enum Next<'a> {
     Command,
 }
 
-// What a word in front of the command is.
+// What a word before the command is.
 #[derive(Clone, Copy)]
 enum Kind<'a> {
     Help,
@@ -74,7 +74,7 @@ enum Kind<'a> {
     Flag,
     /// An option whose value is the next word.
     Valued,
-    /// An option with its value.
+    /// An option together with its value.
     Value(&'a str, &'a str),
     Unknown,
     Other,
@@ -105,7 +105,7 @@ fn valued_kind(word: &str) -> Kind<'_> {
     }
 }
 
-/// Takes a word in front of the command, with the words after it.
+/// Takes a word before the command; `after` are the words after it.
 pub(crate) fn step<'a>(
     alloc: Global,
     front: &mut Front<'a>,
@@ -160,12 +160,12 @@ fn no_option<T>(alloc: Global, word: &str) -> Result<T, Refusal> {
     }
 }
 
-/// Refuses the words; an empty hint is none.
+/// Refuses the words. An empty hint means that there is none.
 pub(crate) fn wrong<T>(alloc: Global, words: &str, hint: &str) -> Result<T, Refusal> {
     Err(Refusal::Fault(fault_of(alloc, words, hint)?))
 }
 
-/// A fault of the words; an empty hint is none.
+/// A fault of the words. An empty hint means that there is none.
 pub(crate) fn fault_of(alloc: Global, words: &str, hint: &str) -> Result<Fault, AllocError> {
     let mut told = Text::new(alloc);
     add_escaped(&mut told, words);

@@ -1,9 +1,9 @@
-//! Who speaks.
+//! The name of the curator who speaks.
 
 use std::alloc::{AllocError, Global};
 use ws_print::Text;
 
-// The text with `_` for each character that may not stand in a name.
+// The text with `_` for each character that a name may not have.
 fn with_underscores(alloc: Global, text: &str) -> Result<String, AllocError> {
     let mut out = Text::new(alloc);
     for letter in text.chars() {
@@ -13,8 +13,8 @@ fn with_underscores(alloc: Global, text: &str) -> Result<String, AllocError> {
     out.done()
 }
 
-/// The name of the curator that a text of the environment or of `--as` stands for: each character that may not stand in a name
-/// becomes `_`, one that begins with a digit gets a `_` in front, and an empty one is `someone`.
+/// The curator's name that a text of the environment or of `--as` stands for. Each character that a name may not have becomes
+/// `_`; a text that begins with a digit gets a `_` in front; an empty text becomes `someone`.
 pub fn curator_of(alloc: Global, text: &str) -> Result<String, AllocError> {
     if text.is_empty() {
         return String::from_str(alloc, "someone");
