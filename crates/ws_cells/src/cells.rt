@@ -1,9 +1,9 @@
-//! What a cell says.
+//! What a cell stands for.
 
 use std::alloc::{AllocError, Global};
 use ws_written::{Unknown, Value};
 
-// Whether the digits are those of a number as it is printed: `0`, or no zero in front.
+// Whether the digits are a number in printed form: `0`, or no zero in front.
 fn is_printed(digits: &str) -> bool {
     match digits.as_bytes() {
         [] => false,
@@ -12,7 +12,7 @@ fn is_printed(digits: &str) -> bool {
     }
 }
 
-/// The number that is printed as the cell, if there is one.
+/// The number whose printed form is the cell; None if there is none.
 pub(crate) fn number_of(cell: &str) -> Option<i64> {
     if cell == "0" {
         return Some(0);
@@ -23,7 +23,7 @@ pub(crate) fn number_of(cell: &str) -> Option<i64> {
     cell.parse::<i64>().ok()
 }
 
-/// The numbers of a cell `?U.P`, as they are written.
+/// The two numbers of a cell `?U.P`, as they are written; None if the cell has another form.
 pub(crate) fn unknown_parts(cell: &str) -> Option<(&str, &str)> {
     let (update, place) = cell.strip_prefix("?")?.split_once('.')?;
     if are_digits(update) && are_digits(place) {
@@ -41,7 +41,7 @@ fn are_digits(text: &str) -> bool {
     !text.is_empty()
 }
 
-/// The unknown of a cell `?U.P`, if it is among those that stand, which are in order.
+/// The unknown of a cell `?U.P`, if it is in `standing`, which is in order.
 pub(crate) fn unknown_of(parts: (&str, &str), standing: &[Unknown]) -> Option<Unknown> {
     let update = parts.0.parse::<u32>().ok()?;
     let place = parts.1.parse::<u32>().ok()?;
@@ -50,7 +50,7 @@ pub(crate) fn unknown_of(parts: (&str, &str), standing: &[Unknown]) -> Option<Un
     Some(unknown)
 }
 
-/// The value of a cell: a number if one is printed so, unless the column has texts alone; else a text.
+/// The value of a cell: a number if the cell is in its printed form and the column does not hold texts alone; else a text.
 pub(crate) fn value_of(alloc: Global, cell: &str, as_text: bool) -> Result<Value, AllocError> {
     if !as_text {
         if let Some(number) = number_of(cell) {

@@ -1,14 +1,14 @@
-//! Names of columns, as a file has them and as a relation may have them.
+//! The names of columns, in a file and in a relation.
 
 use std::alloc::{AllocError, Global};
 use ws_print::Text;
 
-// What is cut off around the name of a column.
+// Whether the character is cut off around the name of a column.
 fn is_margin(letter: char) -> bool {
     letter.is_whitespace() || ('\u{1c}' <= letter && letter <= '\u{1f}')
 }
 
-/// The names of the columns of a file: its first cells, without the blanks around them.
+/// The names of a file's columns: its first cells, without the blanks around them.
 pub(crate) fn header_of(alloc: Global, cells: &[String]) -> Result<Vec<String>, AllocError> {
     let mut names = Vec::new(alloc);
     for cell in cells {
@@ -17,7 +17,7 @@ pub(crate) fn header_of(alloc: Global, cells: &[String]) -> Result<Vec<String>, 
     Ok(names)
 }
 
-// The name with `_` for each character that may not stand in one.
+// The name with `_` for each character that a name may not have.
 fn with_underscores(alloc: Global, name: &str) -> Result<String, AllocError> {
     let mut out = Text::new(alloc);
     for letter in name.chars() {
@@ -27,7 +27,7 @@ fn with_underscores(alloc: Global, name: &str) -> Result<String, AllocError> {
     out.done()
 }
 
-/// The name of a column that is made of a name in a file: one that begins with no letter gets a `c` in front.
+/// The name of a column made from a name in a file. A name that begins with no letter gets a `c` in front.
 pub(crate) fn made_name(alloc: Global, name: &str) -> Result<String, AllocError> {
     if name.is_empty() {
         return String::from_str(alloc, "c");
@@ -49,7 +49,7 @@ pub(crate) fn place_of(names: &[String], name: &str) -> Option<usize> {
     None
 }
 
-/// Whether a name stands twice.
+/// Whether a name stands there twice.
 pub(crate) fn has_twice(names: &[String]) -> bool {
     for (place, name) in names.iter().enumerate() {
         if place_of(names, name.as_str()) != Some(place) {

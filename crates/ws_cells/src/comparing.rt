@@ -1,4 +1,4 @@
-//! The columns of a file against those of the relation.
+//! The columns of a file compared with the columns of the relation.
 
 use crate::columns::has_twice;
 use crate::refusing::{add_names, faults, meant_of};
@@ -8,7 +8,7 @@ use ws_grammar::has_name;
 use ws_print::{Lines, Text, add_form, add_quoted};
 use ws_written::Relation;
 
-/// The first line names the columns of the relation, each once.
+/// Refuses the file unless its first line names each column of the relation, and names it once.
 pub(crate) fn has_same(
     alloc: Global,
     path: &str,
@@ -35,7 +35,7 @@ pub(crate) fn has_same(
     faults(words, Some(hint), more)
 }
 
-// A fault for each column of the file that the relation does not have.
+// Adds a fault for each column of the file that the relation does not have.
 fn add_strangers(
     alloc: Global,
     more: &mut Lines,
@@ -60,7 +60,7 @@ fn add_strangers(
     Ok(())
 }
 
-// A fault that tells the columns of the relation that the file does not have.
+// Adds a fault that lists the relation's columns that the file does not have.
 fn add_missing(
     alloc: Global,
     more: &mut Lines,

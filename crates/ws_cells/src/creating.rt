@@ -10,7 +10,7 @@ use ws_grammar::read_relation;
 use ws_print::Text;
 use ws_written::Relation;
 
-// The relation with the columns that are taken, as `relation` takes it.
+// The columns that are taken as a relation, in the form that the command `relation` takes.
 fn declaration(
     alloc: Global,
     load: &Load,
@@ -44,7 +44,7 @@ fn nearest_relation(
     nearest.question()
 }
 
-// There is no relation of this name, and it is not to be created.
+// The refusal: no relation has this name, and none is to be created.
 fn no_relation<T>(
     alloc: Global,
     relations: &[Relation],
@@ -61,7 +61,7 @@ fn no_relation<T>(
     fault(alloc, Status::Refused, words, hint)
 }
 
-/// The relation that is created for a file with these columns; it is refused unless `load` says so.
+/// The relation created for a file with these columns. It is refused unless `load` asks for its creation.
 pub(crate) fn created(
     alloc: Global,
     load: &Load,
@@ -81,7 +81,7 @@ pub(crate) fn created(
     Ok(relation)
 }
 
-// Whether a relation has this name, but for capitals.
+// Whether a relation has this name, ignoring capitals.
 fn is_declared(relations: &[Relation], name: &str) -> bool {
     for relation in relations {
         if relation.name.as_str().eq_ignore_ascii_case(name) {
@@ -91,7 +91,7 @@ fn is_declared(relations: &[Relation], name: &str) -> bool {
     false
 }
 
-// The relation that a line declares; a fault of the line has no place, since nobody said the line.
+// The relation that a line declares. A fault of the line has no place, because no curator wrote the line.
 fn declared(alloc: Global, line: &str) -> Result<Relation, Refusal> {
     match read_relation(alloc, line) {
         Err(Refusal::Fault(mut fault)) => {

@@ -1,4 +1,4 @@
-//! The first line of a file against the relation that it is for.
+//! The first line of a file, compared with the relation that the file is for.
 
 use crate::columns::header_of;
 use crate::creating::created;
@@ -16,18 +16,18 @@ use ws_written::Relation;
 /// How the cells of a row become a tuple.
 #[derive(Drop)]
 pub struct Fitted {
-    /// The relation that has to be declared first, if it is not there.
+    /// The relation that must be declared first, if it is not there.
     pub created: Option<Relation>,
     /// The number of the relation.
     pub relation: u32,
-    /// How many cells a row has.
+    /// The number of cells in a row.
     pub width: usize,
     /// The columns of the relation, in order.
     pub columns: Vec<FittedColumn>,
 }
 
-/// How the rows under a first line become tuples of the relation of `load`, which is there or is to be created. What does not
-/// fit is refused; `path` is the file as it was said.
+/// How the rows after the first line become tuples of the relation of `load`, which is there or is to be created. A file that
+/// does not fit is refused; `path` is the file as the curator gave it.
 pub fn fit(
     alloc: Global,
     load: &Load,
@@ -77,7 +77,7 @@ fn fit_created(
     })
 }
 
-// Each column that `--columns` names is in the file.
+// Refuses the file unless it has each column that `--columns` names.
 fn has_chosen(alloc: Global, form: &Form, path: &str, header: &[String]) -> Result<(), Refusal> {
     let Some(chosen) = &form.columns else {
         return Ok(());
@@ -99,7 +99,7 @@ fn no_column(alloc: Global, path: &str, name: &str, header: &[String]) -> Result
     fault(alloc, Status::Refused, words, Some(hint))
 }
 
-// The question whether one of the names was meant, or all of them.
+// A hint: asks whether one of the names was meant if one is near, else lists all.
 fn meant_or_known(alloc: Global, name: &str, names: &[String]) -> Result<String, AllocError> {
     let mut hint = Text::new(alloc);
     match meant_of(alloc, name, names)? {

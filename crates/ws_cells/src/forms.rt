@@ -1,4 +1,4 @@
-//! How a file is to be read: the words of `load`.
+//! How a file is to be read, from the words of `load`.
 
 use crate::refusing::fault;
 use std::alloc::{AllocError, Global};
@@ -6,29 +6,29 @@ use ws_command::Load;
 use ws_fault::{Refusal, Status};
 use ws_print::Lines;
 
-/// What an empty cell is.
+/// What an empty cell stands for.
 #[derive(Clone, Copy, PartialEq, Eq)]
 pub enum Empty {
     /// A fault.
     Refuse,
-    /// A new unknown, each.
+    /// A new unknown, for each cell.
     New,
     /// The empty text.
     Text,
-    /// Its row is passed over.
+    /// Its row is skipped.
     Skip,
 }
 
-/// How a file is to be read.
+/// How to read a file.
 #[derive(Drop)]
 pub struct Form {
     pub separator: char,
     pub empty: Empty,
-    /// The words that make a cell an empty one.
+    /// The words that count as an empty cell.
     pub nulls: Vec<String>,
-    /// The columns whose cells are all texts; an empty one among them is none.
+    /// The columns that hold texts alone. An empty cell among them is an empty text.
     pub texts: Vec<String>,
-    /// The columns of the file that are taken, in the order of the relation's; none means all, by their names.
+    /// The columns of the file that are taken, in the order of the relation's columns. None means all, by their names.
     pub columns: Option<Vec<String>>,
     /// Whether `?U.P` is an unknown.
     pub unknowns: bool,
@@ -39,7 +39,7 @@ const SEPARATOR: &str = "the separator is one character, or tab";
 const EMPTY: &str =
     "--empty is new (a new unknown), text (the empty text), skip (the row) or refuse";
 
-/// The separator that a word stands for: its one character, or that of `tab`.
+/// The separator that a word stands for: its only character, or the tab character for `tab`.
 pub fn separator_of(word: &str) -> Option<char> {
     if word == "tab" {
         return Some('\t');
@@ -62,7 +62,7 @@ fn empty_of(word: &str) -> Option<Empty> {
     }
 }
 
-// The parts of a word between commas; an empty one if the word is empty.
+// The parts of a word between commas; one empty part if the word is empty.
 fn parts_of(alloc: Global, word: &str) -> Result<Vec<String>, AllocError> {
     let mut parts = Lines::new(alloc);
     for part in word.split(',') {
@@ -71,7 +71,7 @@ fn parts_of(alloc: Global, word: &str) -> Result<Vec<String>, AllocError> {
     parts.done()
 }
 
-// The columns that `--columns` names, if it is said.
+// The columns that `--columns` names, if it is given.
 fn columns_of(alloc: Global, load: &Load) -> Result<Option<Vec<String>>, AllocError> {
     match &load.columns {
         Some(word) => Ok(Some(parts_of(alloc, word.as_str())?)),
@@ -86,8 +86,7 @@ fn word_or<'a>(word: &'a Option<String>, usual: &'a str) -> &'a str {
     }
 }
 
-/// How a file is to be read. A separator of other than one character, and an empty cell that is to be something else, are
-/// refused.
+/// Reads the words of `load`. A separator that is not one character, and an unknown word for empty cells, are refused.
 pub fn form_of(alloc: Global, load: &Load) -> Result<Form, Refusal> {
     let Some(separator) = separator_of(word_or(&load.separator, ",")) else {
         let words = String::from_str(alloc, SEPARATOR)?;

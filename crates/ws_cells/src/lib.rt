@@ -1,9 +1,9 @@
 //! Rows of comma-separated values, on their way into a relation and out of it.
 //!
-//! `form_of` reads the words of `load`, `text_of` the bytes of its file, `fit` its first line against the relation, and
-//! `facts_of` its rows: tuples that may be inserted, or all faults by line and row. `add_csv_cell` writes a cell.
+//! `form_of` reads the words of `load`, `text_of` the bytes of its file, and `fit` compares its first line with the relation.
+//! `facts_of` turns its rows into tuples to insert, or returns all faults by line and row. `add_csv_cell` writes a cell.
 //!
-//! The reader is our own, since each fault of a quote is told with its line, and since a separator may be any character.
+//! The reader is our own, because each fault of a quote is reported with its line, and because any character may separate cells.
 #![tactic(auto)]
 
 mod cells;

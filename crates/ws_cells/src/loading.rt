@@ -1,4 +1,4 @@
-//! Rows as they become tuples, and the faults that are found on the way.
+//! How rows become tuples, and the faults found on the way.
 
 use crate::fitting::Fitted;
 use crate::forms::{Empty, Form};
@@ -11,14 +11,14 @@ use ws_grammar::has_name;
 use ws_print::{Text, add_count};
 use ws_written::{NewFact, Unknown};
 
-/// A fault of a line.
+/// A fault, with its line.
 #[derive(Drop)]
 pub(crate) struct RowFault {
     pub(crate) line: u64,
     pub(crate) words: String,
 }
 
-/// What rows are read by, and what was read so far.
+/// How rows are read, and what has been read so far.
 #[derive(Drop)]
 pub(crate) struct Loading<'a> {
     alloc: Global,
@@ -30,7 +30,7 @@ pub(crate) struct Loading<'a> {
 }
 
 impl<'a> Loading<'a> {
-    /// Nothing was read yet. The unknowns that stand are in order.
+    /// The beginning: nothing has been read yet. `standing` is in order.
     pub(crate) fn of(
         alloc: Global,
         form: &'a Form,
@@ -64,7 +64,7 @@ impl<'a> Loading<'a> {
         (loaded, faults)
     }
 
-    /// Reads a row, the number of which counts from 1.
+    /// Reads a row; `number` counts from 1.
     pub(crate) fn add_row(&mut self, number: u64, row: &CsvRow) -> Result<(), AllocError> {
         if row.cells.len() != self.fitted.width {
             return self.wrong_width(number, row);
@@ -107,7 +107,7 @@ impl<'a> Loading<'a> {
         false
     }
 
-    // The cell of a column, an empty text if it counts as empty.
+    // The cell of a column; an empty text if it counts as empty.
     fn cell<'r>(&self, row: &'r CsvRow, column: &FittedColumn) -> &'r str {
         match row.cells.get(column.place) {
             Some(cell) if !has_name(self.form.nulls.as_slice(), cell.as_str()) => cell.as_str(),
@@ -115,7 +115,7 @@ impl<'a> Loading<'a> {
         }
     }
 
-    // The tuple of a row; values that are at fault are left out of it.
+    // The tuple of a row, without the values that have a fault.
     fn fact(&mut self, number: u64, row: &CsvRow) -> Result<NewFact, AllocError> {
         let fitted = self.fitted;
         let mut values = Vec::with_capacity(self.alloc, fitted.columns.len())?;

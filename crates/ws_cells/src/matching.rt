@@ -16,7 +16,7 @@ pub struct FittedColumn {
     pub name: String,
     /// The place of its cell in a row.
     pub place: usize,
-    /// Whether its cells are all texts.
+    /// Whether it holds texts alone.
     pub as_text: bool,
 }
 
@@ -29,7 +29,7 @@ pub(crate) fn column_names(alloc: Global, relation: &Relation) -> Result<Vec<Str
     Ok(names)
 }
 
-/// The columns of the relation with their places in a row.
+/// The relation's columns with their places in a row.
 pub(crate) fn fitted_columns(
     alloc: Global,
     form: &Form,
@@ -60,7 +60,7 @@ pub(crate) fn fitted_columns(
     placed(alloc, form, names.as_slice(), taken, header.as_slice())
 }
 
-// The columns, the cell of each being that of the name taken for it.
+// The columns; each one's cell is found by the name taken for it.
 fn placed(
     alloc: Global,
     form: &Form,
@@ -82,7 +82,7 @@ fn placed(
     Ok(columns)
 }
 
-// Each column that `--text` names is one of the relation.
+// Refuses the file unless each column that `--text` names is one of the relation.
 fn has_texts(
     alloc: Global,
     form: &Form,
@@ -103,7 +103,7 @@ fn has_texts(
     Ok(())
 }
 
-// `--columns` names as many columns as the relation has.
+// Refuses the file unless `--columns` names as many columns as the relation has.
 fn has_count(alloc: Global, relation: &Relation, count: usize) -> Result<(), Refusal> {
     if relation.columns.len() == count {
         return Ok(());

@@ -4,23 +4,23 @@ use crate::written::count_ends;
 use std::alloc::{AllocError, Global};
 use ws_print::Text;
 
-/// What is wrong with the quotes of a text, and in which line.
+/// What is wrong with the quotes of a text, and on which line.
 #[derive(Clone, Copy, PartialEq, Eq)]
 pub enum CsvFault {
-    /// The quote that opened in this line is not closed.
+    /// The quote opened on this line is not closed.
     Open(u64),
-    /// After the quote that closed in this line stands something else than the end of the cell.
+    /// After the quote closed on this line, something follows that does not end the cell.
     After(u64),
 }
 
-/// A row: its line, and its cells.
+/// A row: the line where it begins, and its cells.
 #[derive(Drop)]
 pub struct CsvRow {
     pub line: u64,
     pub cells: Vec<String>,
 }
 
-/// Reads rows, one after the other. Lines without a cell are passed over.
+/// Reads rows, one after the other. Lines without a cell are skipped.
 #[derive(Drop)]
 pub struct CsvReader<'a> {
     alloc: Global,
@@ -30,7 +30,7 @@ pub struct CsvReader<'a> {
     faults: Vec<CsvFault>,
 }
 
-// The text up to a place, and from there on.
+// The text up to a place, and the rest of it.
 fn cut(text: &str, place: usize) -> (&str, &str) {
     match text.split_at_checked(place) {
         Some(parts) => parts,
@@ -39,7 +39,7 @@ fn cut(text: &str, place: usize) -> (&str, &str) {
 }
 
 impl<'a> CsvReader<'a> {
-    /// The beginning of a text, which may have a byte order mark.
+    /// A reader at the beginning of a text, which may have a byte order mark.
     pub fn over(alloc: Global, text: &'a str, separator: char) -> CsvReader<'a> {
         CsvReader {
             alloc,
@@ -50,12 +50,12 @@ impl<'a> CsvReader<'a> {
         }
     }
 
-    /// What was wrong with quotes so far, in order.
+    /// The faults of quotes so far, in order.
     pub fn faults(&self) -> &[CsvFault] {
         self.faults.as_slice()
     }
 
-    /// The next row; none at the end.
+    /// The next row; None at the end.
     pub fn next_row(&mut self) -> Result<Option<CsvRow>, AllocError> {
         for _ in 0..u64::MAX {
             if self.rest.is_empty() {
@@ -102,7 +102,7 @@ impl<'a> CsvReader<'a> {
         }
     }
 
-    // The length of a cell that is not quoted.
+    // The length of a cell without quotes.
     fn length_of_cell(&self) -> usize {
         let separator = self.separator;
         let end = self.rest.find(|c: char| c == separator || c == '\n');
@@ -141,13 +141,13 @@ impl<'a> CsvReader<'a> {
         cell.done()
     }
 
-    // A part of a quoted cell, with the lines that it ends.
+    // Adds a part of a quoted cell, and counts the lines that end in it.
     fn add_part(&mut self, cell: &mut Text, part: &str) {
         self.line = self.line.saturating_add(count_ends(part.as_bytes()));
         cell.push_str(part)
     }
 
-    // Passes over what stands after a closing quote and does not belong there.
+    // Skips what stands after a closing quote and does not belong there.
     fn pass_stray(&mut self) -> Result<(), AllocError> {
         let ends = match self.rest.chars().next() {
             None => true,
@@ -162,7 +162,7 @@ impl<'a> CsvReader<'a> {
     }
 }
 
-// Whether a row is a line without a cell.
+// Whether the row is a line without a cell.
 fn is_blank(cells: &[String]) -> bool {
     match cells {
         [cell] => cell.is_empty(),

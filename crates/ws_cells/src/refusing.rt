@@ -4,7 +4,7 @@ use std::alloc::{AllocError, Global};
 use ws_fault::{Fault, Nearest, Refusal, Status};
 use ws_print::{Text, add_escaped};
 
-/// A fault without a place.
+/// Refuses with a fault that has no place.
 pub(crate) fn fault<T>(
     alloc: Global,
     status: Status,
@@ -20,7 +20,7 @@ pub(crate) fn fault<T>(
     }))
 }
 
-/// A fault with further ones.
+/// Refuses with a fault that has further ones.
 pub(crate) fn faults<T>(
     words: String,
     hint: Option<String>,
@@ -35,7 +35,7 @@ pub(crate) fn faults<T>(
     }))
 }
 
-/// The question whether one of the names was meant, if one is near.
+/// A question whether one of the names was meant, if one is near.
 pub(crate) fn meant_of(
     alloc: Global,
     word: &str,

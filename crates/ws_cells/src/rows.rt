@@ -1,4 +1,4 @@
-//! The rows of a file as tuples, or all faults of them.
+//! The rows of a file as tuples, or all their faults.
 
 use crate::fitting::Fitted;
 use crate::forms::Form;
@@ -14,7 +14,7 @@ use ws_written::{NewFact, Unknown};
 #[derive(Drop)]
 pub struct LoadedRow {
     pub line: u64,
-    /// The number of the row under the first line, from 1.
+    /// The number of the row after the first line, from 1.
     pub row: u64,
     pub fact: NewFact,
 }
@@ -23,12 +23,12 @@ pub struct LoadedRow {
 #[derive(Drop)]
 pub struct Loaded {
     pub rows: Vec<LoadedRow>,
-    /// How many rows were passed over for an empty cell.
+    /// The number of rows skipped because of an empty cell.
     pub skipped: u64,
 }
 
-/// The tuples of the rows that are left, or all faults of the file, by line. The unknowns that stand are in order; `path` is
-/// the file as it was said.
+/// The tuples of the rows that `reader` has left, or all faults of the file, by line. `standing` is in order; `path` is the file
+/// as the curator gave it.
 pub fn facts_of(
     alloc: Global,
     reader: &mut CsvReader<'_>,
@@ -61,7 +61,7 @@ fn refused(alloc: Global, path: &str, all: Vec<String>) -> Result<Loaded, Refusa
     faults(words, None, all)
 }
 
-// All faults by line, those of quotes before others of a line. Both stand in the order of the file.
+// All faults by line; on a line, faults of quotes come first. Both lists are in the order of the file.
 fn all_faults(
     alloc: Global,
     quotes: &[CsvFault],
@@ -77,7 +77,7 @@ fn all_faults(
     all.done()
 }
 
-// Adds the faults of quotes up to this line, and leaves the others.
+// Adds the faults of quotes up to line `last`, and returns the others.
 fn add_quotes<'a>(
     alloc: Global,
     all: &mut Lines,

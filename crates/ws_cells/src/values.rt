@@ -7,7 +7,7 @@ use std::alloc::{AllocError, Global};
 use ws_print::{Text, add_escaped};
 use ws_written::{NewValue, Unknown, Value};
 
-/// The most bytes of a text.
+/// The greatest number of bytes in a text.
 const MOST: usize = 256;
 
 /// A value, or what is wrong with its cell.
@@ -17,7 +17,7 @@ pub(crate) enum Read {
     Wrong(String),
 }
 
-/// The value of a cell, which is empty if it counts as such, by the unknowns that stand, which are in order.
+/// The value of a cell, which is empty if it counts as such. The unknowns in `standing` are in order.
 pub(crate) fn read_cell(
     alloc: Global,
     form: &Form,

@@ -5,7 +5,7 @@ use std::alloc::Global;
 use ws_fault::{Refusal, Status};
 use ws_print::Text;
 
-/// How many lines the bytes end.
+/// The number of lines that end in the bytes.
 pub(crate) fn count_ends(bytes: &[u8]) -> u64 {
     let mut count = 0u64;
     for byte in bytes {
@@ -16,7 +16,7 @@ pub(crate) fn count_ends(bytes: &[u8]) -> u64 {
     count
 }
 
-/// The text of a file's bytes; a file that is not UTF-8 is refused, with the place of the first byte that is none.
+/// The bytes of a file as a text. A file that is not UTF-8 is refused, with the place of the first wrong byte.
 pub fn text_of<'a>(alloc: Global, path: &str, bytes: &'a [u8]) -> Result<&'a str, Refusal> {
     match str::from_utf8(bytes) {
         Ok(text) => Ok(text),
@@ -31,12 +31,13 @@ pub fn text_of<'a>(alloc: Global, path: &str, bytes: &'a [u8]) -> Result<&'a str
     }
 }
 
-// Whether a cell has to stand between quotes.
+// Whether a cell needs quotes.
 fn is_quoted(text: &str) -> bool {
     text.is_empty() || text.trim().len() != text.len() || text.contains(['"', ',', '\r', '\n'])
 }
 
-/// Adds a text as a cell: between quotes, its quotes doubled, if it would else be read as another one.
+/// Adds a text as a cell. If it would otherwise be read as another text, it stands between quotes, and its own quotes are
+/// doubled.
 pub fn add_csv_cell(out: &mut Text, text: &str) {
     if !is_quoted(text) {
         return out.push_str(text);
