@@ -1,4 +1,4 @@
-//! Which relations' tuples lines changed.
+//! The relations whose tuples were changed by lines.
 
 use base_types::{Memory, Tuple, TupleList, Write};
 use std::alloc::Global;
@@ -6,8 +6,8 @@ use std::collections::BTreeSet;
 use ws_run::{Step, Touched, WANT};
 use ws_state::{Replayed, Standing};
 
-/// What lines did: how many they are, what they wrote, each write having changed something, and which relations' tuples an undo or
-/// a redo changed.
+/// What lines did: their number, what they wrote, and the relations whose tuples an undo or a redo changed. Each write changed
+/// something.
 #[derive(Drop)]
 pub(crate) struct Changed {
     pub lines: usize,
@@ -16,7 +16,7 @@ pub(crate) struct Changed {
 }
 
 impl Changed {
-    /// No line did anything.
+    /// No line, so no change.
     pub fn new(alloc: Global) -> Changed {
         Changed {
             lines: 0,
@@ -25,7 +25,7 @@ impl Changed {
         }
     }
 
-    /// Adds what updates did that came to stand.
+    /// Adds what these updates did; they have just come to stand.
     pub fn add_stood(&mut self, standings: &[Standing]) -> Result<(), Memory> {
         for standing in standings {
             for step in standing.steps.as_slice() {
@@ -64,7 +64,7 @@ impl Changed {
         add_tables(&mut self.tables, &replayed.went)
     }
 
-    /// The numbers of the relations whose tuples are others now, rising.
+    /// The numbers of the relations whose tuples have changed, in rising order.
     pub fn tables(&mut self, alloc: Global) -> Result<Vec<u32>, Memory> {
         self.add_written(alloc)?;
         let mut numbers = Vec::new(alloc);
@@ -83,7 +83,7 @@ impl Changed {
     }
 }
 
-// Whether of each relation tuples only came or only went, so that each write changed its relation for good.
+// Whether each relation only gained tuples or only lost tuples. If so, each write changed its relation for good.
 fn only_come_or_go(alloc: Global, writes: &[Write]) -> Result<bool, Memory> {
     let mut came = BTreeSet::new(alloc);
     let mut went = BTreeSet::new(alloc);
@@ -111,7 +111,7 @@ fn add_each(tables: &mut BTreeSet<u16>, writes: &[Write]) -> Result<(), Memory> 
     Ok(())
 }
 
-// Adds the relations of the tuples that are there after the writes and were not before, or the other way round.
+// Adds the relations of the tuples whose presence differs before and after the writes.
 fn add_touched(alloc: Global, tables: &mut BTreeSet<u16>, writes: &[Write]) -> Result<(), Memory> {
     let mut touched = Touched::new(alloc);
     touched.made(writes)?;
@@ -123,7 +123,7 @@ fn add_touched(alloc: Global, tables: &mut BTreeSet<u16>, writes: &[Write]) -> R
     Ok(())
 }
 
-// Whether the tuple is of a relation that is seen.
+// Whether people see the tuple's relation.
 fn is_seen(tuple: &Tuple) -> bool {
     tuple.relation < WANT
 }

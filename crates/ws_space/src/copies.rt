@@ -1,4 +1,4 @@
-//! Copies of what is said.
+//! Copies of values, tuples and mappings as they are said.
 
 use base_types::Memory;
 use std::alloc::Global;
@@ -26,7 +26,7 @@ pub fn copy_fact(alloc: Global, fact: &Fact) -> Result<Fact, Memory> {
     })
 }
 
-/// The tuple that a pattern is; None if a `_` stands in it.
+/// The tuple that a pattern stands for; None if it has a `_`.
 pub fn plain_fact(alloc: Global, pattern: &Pattern) -> Result<Option<Fact>, Memory> {
     let mut values = Vec::new(alloc);
     for value in &pattern.values {

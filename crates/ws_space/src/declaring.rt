@@ -1,4 +1,4 @@
-//! What is declared, by its number.
+//! Declared relations and mappings, by their numbers.
 
 use crate::lines::apart;
 use crate::sources::number_of;
@@ -9,7 +9,7 @@ use ws_grammar::place_of;
 use ws_written::{Line, Relation, Rule};
 
 impl Space {
-    // What the line declares is known by its name from now on.
+    // Notes what the line declares, so that its name is known from now on.
     pub(crate) fn declare(&mut self, alloc: Global, line: &Line) -> Result<(), Memory> {
         match line {
             Line::Relation(relation) => self.declare_relation(relation.clone()?),

@@ -1,4 +1,4 @@
-//! Tuples within: what is shown of them, and what is there.
+//! Finding tuples within: how they are said, and whether they are there.
 
 use crate::naming::{null_of, said_fact};
 use crate::spaces::Space;
@@ -10,13 +10,13 @@ use ws_command::Pattern;
 use ws_written::{Fact, Unknown, Value as Said};
 
 impl Space {
-    /// A tuple within, as it is said.
+    /// A tuple within in the form that people say it.
     pub fn shown(&self, alloc: Global, tuple: &Tuple) -> Result<Fact, Memory> {
         let named = self.state.names().tuple(alloc, tuple)?;
         said_fact(alloc, &named)
     }
 
-    /// What a tuple that is said is within; None if it names an unknown that is not there.
+    /// The tuple within that a said tuple stands for; None if it names an unknown that is not there.
     pub fn within(&self, alloc: Global, fact: &Fact) -> Result<Option<Tuple>, Memory> {
         let mut values = ValueList::new(alloc);
         for value in &fact.values {
@@ -28,7 +28,7 @@ impl Space {
         Ok(Some(Tuple::new(alloc, small(fact.relation), values)?))
     }
 
-    /// What a value that is said is within; None if it is an unknown that is not there.
+    /// The value within that a said value stands for; None if it is an unknown that is not there.
     pub fn within_value(&self, alloc: Global, value: &Said) -> Result<Option<Value>, Memory> {
         Ok(match value {
             Said::Number(number) => Some(Value::Int(*number)),
@@ -37,7 +37,7 @@ impl Space {
         })
     }
 
-    /// What an unknown is within; None if it is not there.
+    /// The value within that an unknown stands for; None if it is not there.
     pub fn within_unknown(&self, unknown: Unknown) -> Option<Value> {
         let null = self.state.names().null_called(null_of(unknown))?;
         let value = Value::Null(null);
@@ -47,7 +47,7 @@ impl Space {
         None
     }
 
-    // Whether a tuple has the value.
+    // Whether some tuple has the value.
     fn stands(&self, value: &Value) -> bool {
         for (number, relation) in self.relations.iter().enumerate() {
             for column in 0..relation.columns.len() {
@@ -73,7 +73,7 @@ impl Space {
         self.state.facts().contains(tuple)
     }
 
-    /// The tuples that fit, within and in order; none if the pattern names an unknown that is not there.
+    /// The tuples that fit the pattern, within and in order; none if it names an unknown that is not there.
     pub fn matching(&self, alloc: Global, pattern: &Pattern) -> Result<Vec<Tuple>, Memory> {
         let mut columns = Vec::new(alloc);
         for value in &pattern.values {
@@ -88,7 +88,7 @@ impl Space {
         self.fitting(alloc, small(pattern.relation), columns.as_slice())
     }
 
-    /// The tuples of a relation that have these values in their columns, if one is given, within and in order.
+    /// The tuples of a relation with these values in their columns, within and in order. None in a column fits any value.
     pub fn fitting(
         &self,
         alloc: Global,
@@ -113,7 +113,7 @@ impl Space {
         self.fitting(alloc, small(relation), &[])
     }
 
-    /// How many tuples a relation has.
+    /// The number of tuples in a relation.
     pub fn count_rows(&self, relation: u32) -> usize {
         let mut count = 0usize;
         let mut walk = Walk::new(self.state.facts(), small(relation), None);
@@ -127,7 +127,7 @@ impl Space {
     }
 }
 
-// The first column that has a value.
+// The first column with a value.
 fn first_column(columns: &[Option<Value>]) -> Option<Column<'_>> {
     for (number, value) in columns.iter().enumerate() {
         if let Some(value) = value {

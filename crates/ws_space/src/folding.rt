@@ -1,4 +1,4 @@
-//! The head of what stands.
+//! A fold: what stands becomes the head.
 
 use crate::copies::copy_rule;
 use crate::naming::{add_said_facts, said_fact, said_facts, unknown_of};
@@ -18,7 +18,7 @@ use ws_written::{
 };
 
 impl Space {
-    /// The head of what stands: it becomes the base, and what waits goes on waiting.
+    /// The head of a fold: what stands becomes the base, and what waits goes on waiting.
     pub fn head(&self, alloc: Global) -> Result<Head, Memory> {
         let numbered = self.state.head(alloc)?;
         let head = self.head_of(alloc, &numbered);
@@ -50,7 +50,7 @@ impl Space {
         }
     }
 
-    // Adds to the head, of which only the numbers stand yet, all else.
+    // Fills the head, which has only its numbers so far.
     fn fill(&self, alloc: Global, numbered: &Numbered, head: &mut Head) -> Result<(), Memory> {
         head.created.time.push_str(self.created.time.as_str())?;
         head.created
@@ -69,7 +69,7 @@ impl Space {
         }
     }
 
-    // The mappings of the head, by the names that they have there.
+    // The mappings of the head, with the names that they have there.
     fn rules_kept(&self, alloc: Global, numbered: &Numbered) -> Result<Vec<Rule>, Memory> {
         let mut kept = Vec::new(alloc);
         for mapping in numbered.mappings.as_slice() {
@@ -84,7 +84,7 @@ impl Space {
     }
 }
 
-// Adds the first so many as mappings in force, and the others as proposed ones.
+// Adds the first `count` mappings as those in force, and the others as proposed.
 fn add_rules(head: &mut Head, rules: Vec<Rule>, count: usize) -> Result<(), Memory> {
     for (place, rule) in rules.into_iter().enumerate() {
         if place < count {
@@ -220,7 +220,7 @@ fn image_said(alloc: Global, cause: &Cause) -> Result<Image, Memory> {
     })
 }
 
-// The number of the new unknown that the image wants.
+// The number of the new unknown that the image asks for.
 fn wanted(image: &TupleList) -> u32 {
     let Some(tuple) = image.get(0) else {
         return 0;
@@ -231,7 +231,7 @@ fn wanted(image: &TupleList) -> u32 {
     }
 }
 
-/// An answer as it is said.
+/// The answer as it is said.
 pub(crate) fn answer_said(alloc: Global, rules: &[Rule], given: &Given) -> Result<Answer, Memory> {
     Ok(Answer {
         choice: choice_said(alloc, &given.choice)?,

@@ -1,4 +1,4 @@
-//! From the head of a file to the state that it stands for.
+//! From the head of a file to its state.
 
 use crate::lines::table_of;
 use crate::naming::{named_tuples, null_of};
@@ -10,7 +10,7 @@ use ws_lines::TableList;
 use ws_state::{Head as Numbered, OpenFault, State};
 use ws_written::{Head, Relation, Rule, Unknown};
 
-/// The state of a head whose mappings are these; None if it is that of no state.
+/// The state of a head with these mappings; None if no state has such a head.
 pub(crate) fn state_of(
     alloc: Global,
     rules: &[Rule],

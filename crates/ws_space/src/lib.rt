@@ -1,8 +1,8 @@
-//! The workspace in memory: the state by numbers, with the names of what is said of it.
+//! The workspace in memory: the state by numbers, with the names that people use.
 //!
-//! `Space` is opened from the texts of a file, takes one line after the other, and tells what is there in the words of commands.
-//! Tuples of `base_types` stand in two forms: *within*, as the state has them, and *by names*, as questions and effects do.
-//! After want of memory in a call that takes a line, a space is of no use.
+//! `Space` is opened from the texts of a file, takes one line after the other, and returns what is there in the words of
+//! commands. Tuples of `base_types` have two forms: *within*, as in the state, and *by names*, as in questions and effects. After
+//! want of memory in a call that takes a line, a space is of no use.
 #![tactic(auto)]
 
 mod changed;

@@ -1,4 +1,4 @@
-//! Lines and answers: from what is said to the state's form.
+//! Lines and answers, from the said form to the state's form.
 
 use crate::naming::{named_tuple, named_tuples};
 use crate::rules::mapping_of;
@@ -39,7 +39,7 @@ pub(crate) fn line_of(
     })
 }
 
-/// A copy of the mapping with a variable of its own for each `_`.
+/// A copy of the mapping with a separate variable for each `_`.
 pub(crate) fn apart(alloc: Global, rule: &Rule) -> Result<Rule, Memory> {
     let mut copy = crate::copy_rule(alloc, rule)?;
     set_apart(alloc, &mut copy)?;

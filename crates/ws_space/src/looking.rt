@@ -1,4 +1,4 @@
-//! What is known of mappings and updates by name and number.
+//! Looking up mappings and updates by name and number.
 
 use crate::folding::answer_said;
 use crate::sources::number_of;
@@ -32,12 +32,12 @@ impl Space {
         number_of(self.rules.as_slice(), name)
     }
 
-    /// The mapping of a number; None if there is none.
+    /// The mapping with this number; None if there is none.
     pub fn rule(&self, mapping: u16) -> Option<&Rule> {
         self.rules.get(usize::from(mapping))
     }
 
-    /// A mapping as it is printed; empty if there is none.
+    /// A mapping in printed form; empty if there is none.
     pub fn rule_text(&self, alloc: Global, mapping: u16) -> Result<String, Memory> {
         let mut text = Text::new(alloc);
         if let Some(rule) = self.rule(mapping) {
@@ -51,12 +51,12 @@ impl Space {
         crate::sources::name_of(self.rules.as_slice(), mapping)
     }
 
-    /// Why an update waits, over what stands now; None if it does not wait, or nothing is in its way.
+    /// The reason why an update waits, over what stands now. None if it does not wait, or if nothing is in its way.
     pub fn question(&mut self, alloc: Global, number: u32) -> Result<Option<Reason>, Memory> {
         self.state.ask(alloc, number)
     }
 
-    /// An update as it was said; None if it is not there.
+    /// An update as it was said; None if there is none.
     pub fn update(&self, alloc: Global, number: u32) -> Result<Option<Update>, Memory> {
         match self.state.update(number) {
             Some(update) => Ok(Some(self.said(alloc, update)?)),
@@ -74,7 +74,7 @@ impl Space {
         answer_said(alloc, self.rules.as_slice(), given)
     }
 
-    /// An update as it is printed, without its number and its budget; empty if it is not there.
+    /// An update in printed form, without its number and its budget; empty if there is none.
     pub fn update_text(&self, alloc: Global, number: u32) -> Result<String, Memory> {
         let mut text = Text::new(alloc);
         if let Some(update) = self.update(alloc, number)? {
@@ -83,12 +83,12 @@ impl Space {
         Ok(text.done()?)
     }
 
-    /// The number of the update that is held at this place.
+    /// The number of the update held at this place.
     pub fn number_at(&self, held: usize) -> Option<u32> {
         Some(self.state.held().get(held)?.update.number)
     }
 
-    /// The numbers of the updates that wait, rising.
+    /// The numbers of the updates that wait, in rising order.
     pub fn waiting_numbers(&self, alloc: Global) -> Result<Vec<u32>, Memory> {
         let mut numbers = Vec::new(alloc);
         for waiting in self.state.waiting().as_slice() {
@@ -100,7 +100,7 @@ impl Space {
         Ok(numbers)
     }
 
-    /// Who said an update; empty if it is not there.
+    /// Who said an update; empty if there is none.
     pub fn curator_of(&self, number: u32) -> &str {
         match self.state.update(number) {
             Some(update) => text_of(update.curator.as_slice()),
@@ -108,7 +108,7 @@ impl Space {
         }
     }
 
-    /// When an update was said; empty if it is not there.
+    /// When an update was said; empty if there is none.
     pub fn time_of(&self, number: u32) -> &str {
         match self.state.update(number) {
             Some(update) => text_of(update.time.as_slice()),

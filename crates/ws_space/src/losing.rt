@@ -12,7 +12,8 @@ use ws_state::Standing;
 use ws_written::Unknown;
 
 impl Space {
-    /// Why a name stands for no unknown: the updates that took it to be another value, or that there was none.
+    /// The fault that a name stands for no unknown. It lists the updates that gave the unknown another value, or says that there
+    /// is none.
     pub fn lost(&self, alloc: Global, unknown: Unknown) -> Result<Fault, Memory> {
         let mut name = Text::new(alloc);
         add_unknown(&mut name, unknown);
@@ -30,7 +31,7 @@ impl Space {
         )
     }
 
-    // `update N took it to be V, update N took that to be V, ..`; empty if none did.
+    // `update N took it to be V, update N took that to be V, ..`; empty if no update did.
     fn fate(&self, alloc: Global, unknown: Unknown) -> Result<String, Memory> {
         let mut fate = Text::new(alloc);
         let Some(null) = self.state.names().null_called(null_of(unknown)) else {
@@ -43,7 +44,7 @@ impl Space {
         Ok(fate.done()?)
     }
 
-    // What the steps of an update took the value to be.
+    // Adds what the steps of an update took the value to be.
     fn follow_update(
         &self,
         alloc: Global,

@@ -1,4 +1,4 @@
-//! From values and tuples of the state to what is said, and back.
+//! From the state's values and tuples to the said form, and back.
 
 use crate::spaces::Space;
 use crate::texts::{bytes_of, small, string_of};
@@ -6,7 +6,7 @@ use base_types::{Memory, Null, Tuple, TupleList, Value, ValueList};
 use std::alloc::Global;
 use ws_written::{Fact, Unknown, Value as Said};
 
-/// What an unknown is called whose name the state has in this form.
+/// The unknown that has this name in the state.
 pub fn unknown_of(name: Null) -> Unknown {
     Unknown {
         update: name.update,
@@ -14,7 +14,7 @@ pub fn unknown_of(name: Null) -> Unknown {
     }
 }
 
-/// The name of an unknown in the form that the state has it in.
+/// The state's name for an unknown.
 pub fn null_of(unknown: Unknown) -> Null {
     Null {
         update: unknown.update,
@@ -31,7 +31,7 @@ pub fn is_unknown(value: &Value) -> bool {
     }
 }
 
-/// Whether an unknown stands in the tuple.
+/// Whether the tuple has an unknown.
 pub fn has_unknown(tuple: &Tuple) -> bool {
     for value in tuple.values.as_slice() {
         if is_unknown(value) {
@@ -41,7 +41,7 @@ pub fn has_unknown(tuple: &Tuple) -> bool {
     false
 }
 
-/// A value by names, as it is said.
+/// The said form of a value by names.
 pub(crate) fn said_value(alloc: Global, value: &Value) -> Result<Said, Memory> {
     Ok(match value {
         Value::Int(number) => Said::Number(*number),
@@ -50,7 +50,7 @@ pub(crate) fn said_value(alloc: Global, value: &Value) -> Result<Said, Memory> {
     })
 }
 
-/// A tuple by names, as it is said.
+/// The said form of a tuple by names.
 pub(crate) fn said_fact(alloc: Global, tuple: &Tuple) -> Result<Fact, Memory> {
     Ok(Fact {
         relation: u32::from(tuple.relation),
@@ -58,7 +58,7 @@ pub(crate) fn said_fact(alloc: Global, tuple: &Tuple) -> Result<Fact, Memory> {
     })
 }
 
-/// Values by names, as they are said.
+/// The said form of values by names.
 pub(crate) fn said_values(alloc: Global, values: &[Value]) -> Result<Vec<Said>, Memory> {
     let mut said = Vec::new(alloc);
     said.reserve(values.len())?;
@@ -68,14 +68,14 @@ pub(crate) fn said_values(alloc: Global, values: &[Value]) -> Result<Vec<Said>, 
     Ok(said)
 }
 
-/// Tuples by names, as they are said.
+/// The said form of tuples by names.
 pub(crate) fn said_facts(alloc: Global, tuples: &[Tuple]) -> Result<Vec<Fact>, Memory> {
     let mut facts = Vec::new(alloc);
     add_said_facts(alloc, &mut facts, tuples)?;
     Ok(facts)
 }
 
-/// Adds tuples by names, as they are said.
+/// Adds the said form of tuples by names.
 pub(crate) fn add_said_facts(
     alloc: Global,
     facts: &mut Vec<Fact>,
@@ -88,7 +88,7 @@ pub(crate) fn add_said_facts(
     Ok(())
 }
 
-/// A value that is said, by names.
+/// The form by names of a said value.
 pub(crate) fn named_value(alloc: Global, value: &Said) -> Result<Value, Memory> {
     Ok(match value {
         Said::Number(number) => Value::Int(*number),
@@ -97,7 +97,7 @@ pub(crate) fn named_value(alloc: Global, value: &Said) -> Result<Value, Memory> 
     })
 }
 
-/// Values that are said, by names.
+/// The form by names of said values.
 pub(crate) fn named_values(alloc: Global, values: &[Said]) -> Result<ValueList, Memory> {
     let mut named = ValueList::new(alloc);
     named.reserve(values.len())?;
@@ -107,13 +107,13 @@ pub(crate) fn named_values(alloc: Global, values: &[Said]) -> Result<ValueList, 
     Ok(named)
 }
 
-/// A tuple that is said, by names.
+/// The form by names of a said tuple.
 pub(crate) fn named_tuple(alloc: Global, fact: &Fact) -> Result<Tuple, Memory> {
     let values = named_values(alloc, fact.values.as_slice())?;
     Tuple::new(alloc, small(fact.relation), values)
 }
 
-/// Tuples that are said, by names.
+/// The form by names of said tuples.
 pub(crate) fn named_tuples(alloc: Global, facts: &[Fact]) -> Result<TupleList, Memory> {
     let mut tuples = TupleList::new(alloc);
     tuples.reserve(facts.len())?;
@@ -124,17 +124,17 @@ pub(crate) fn named_tuples(alloc: Global, facts: &[Fact]) -> Result<TupleList, M
 }
 
 impl Space {
-    /// A tuple by names, as it is said.
+    /// The said form of a tuple by names.
     pub fn fact(&self, alloc: Global, tuple: &Tuple) -> Result<Fact, Memory> {
         said_fact(alloc, tuple)
     }
 
-    /// A value by names, as it is said.
+    /// The said form of a value by names.
     pub fn value(&self, alloc: Global, value: &Value) -> Result<Said, Memory> {
         said_value(alloc, value)
     }
 
-    /// A tuple that is said, by names.
+    /// The form by names of a said tuple.
     pub fn tuple(&self, alloc: Global, fact: &Fact) -> Result<Tuple, Memory> {
         named_tuple(alloc, fact)
     }

@@ -1,4 +1,4 @@
-//! A workspace that is opened from the texts of its file.
+//! Opening a workspace from the texts of its file.
 
 use crate::changed::Changed;
 use crate::heads::state_of;
@@ -10,7 +10,7 @@ use ws_grammar::{read_head, read_line, read_stamp};
 use ws_state::State;
 use ws_written::{Head, Record, Rule, SaidLine, Stamp};
 
-/// Why texts cannot be opened: want of memory, or the text at this place among them is no head or record.
+/// Why texts cannot be opened: want of memory, or the text at this place is neither head nor record.
 #[derive(Clone, Copy, Debug, PartialEq, Eq)]
 pub enum Opening {
     Memory,
@@ -36,8 +36,8 @@ impl<T: Drop> From<AllocFailed<T>> for Opening {
 }
 
 impl Space {
-    /// The workspace of a file whose head is the first text, and whose records are the others. If the log is not to be told,
-    /// their lines need not be kept.
+    /// Opens the workspace of a file: the first text is its head, the others are its records. Without `keeps_lines`, the lines of
+    /// the records are not kept; the log cannot be printed then.
     pub fn open(alloc: Global, texts: &[Vec<u8>], keeps_lines: bool) -> Result<Space, Opening> {
         let Some((head, records)) = texts.split_first() else {
             return Err(Opening::Unread(0));
@@ -62,7 +62,7 @@ impl Space {
         Ok(())
     }
 
-    /// Takes one more record; the place of a text that is none is 0.
+    /// Takes one more record. If the text is no record, the place in the error is 0.
     pub fn replay(&mut self, alloc: Global, text: &[u8]) -> Result<(), Opening> {
         if self.replayed(alloc, text)? {
             return Ok(());
@@ -105,7 +105,7 @@ impl Space {
         }
     }
 
-    // Whether the text is a record; what it says is done then.
+    // Does what the text says if it is a record; returns whether it is one.
     fn replayed(&mut self, alloc: Global, text: &[u8]) -> Result<bool, Memory> {
         let Some((stamp, text)) = read_stamp(alloc, text)? else {
             return Ok(false);
@@ -118,7 +118,7 @@ impl Space {
         Ok(true)
     }
 
-    // Does what the lines say, one after the other, if they can be read, and gives those that are kept.
+    // Does what the lines say, one after the other, and returns the lines that are kept; None if a line cannot be read or taken.
     fn replay_lines(&mut self, alloc: Global, text: &str) -> Result<Option<Vec<SaidLine>>, Memory> {
         let mut lines = Vec::new(alloc);
         for line in text.split('\n') {
@@ -148,7 +148,7 @@ impl Space {
     }
 }
 
-// The mappings of the head by number, and its state.
+// The mappings of the head, by number, and its state.
 fn begun(alloc: Global, head: &Head) -> Result<(Vec<Rule>, State), Opening> {
     let rules = rules_of(alloc, head)?;
     match state_of(alloc, rules.as_slice(), head) {
@@ -164,7 +164,7 @@ fn begun(alloc: Global, head: &Head) -> Result<(Vec<Rule>, State), Opening> {
     }
 }
 
-// The mappings of the head by number: those in force, and then those that are proposed.
+// The mappings of the head, by number: first those in force, then the proposed ones.
 fn rules_of(alloc: Global, head: &Head) -> Result<Vec<Rule>, Memory> {
     let mut rules = Vec::new(alloc);
     add_rules(alloc, &mut rules, head.in_force.as_slice())?;

@@ -1,4 +1,4 @@
-//! A workspace as it was, to go back to.
+//! Points: earlier workspaces, to go back to.
 
 use crate::changed::Changed;
 use crate::copies::copy_rules;
@@ -9,7 +9,7 @@ use std::alloc::Global;
 use ws_state::Point as StatePoint;
 use ws_written::{Relation, Rule};
 
-/// What a workspace is to go back to, after lines that are not recorded.
+/// What a workspace goes back to after lines that are not recorded.
 #[derive(Drop)]
 pub struct Point {
     state: StatePoint,
@@ -18,7 +18,7 @@ pub struct Point {
 }
 
 impl Space {
-    /// The workspace as it is now, each line being recorded.
+    /// The workspace as it is now. Each line so far must be recorded.
     pub fn point(&self, alloc: Global) -> Result<Point, Memory> {
         let mut relations = Vec::new(alloc);
         add_relations(&mut relations, self.relations.as_slice())?;
@@ -29,7 +29,7 @@ impl Space {
         })
     }
 
-    /// Takes back the lines that were taken since the point. If it is refused, the space is of no use.
+    /// Takes back the lines taken since the point. After a refusal, the space is of no use.
     pub fn back_to(&mut self, alloc: Global, point: Point) -> Result<(), Memory> {
         let Point {
             state,

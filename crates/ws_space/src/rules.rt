@@ -1,11 +1,11 @@
-//! From mappings that are said to mappings by numbers.
+//! From said mappings to mappings by numbers.
 
 use crate::texts::{bytes_of, small};
 use base_types::{Atom, AtomList, Mapping, Memory, Name, NameList, Term, TermRow, Value};
 use std::alloc::Global;
 use ws_written::{Atom as SaidAtom, Rule, Term as SaidTerm};
 
-/// The mapping by numbers that a mapping is, no `_` of which is left.
+/// The mapping by numbers of a said mapping, which has no `_` any more.
 pub(crate) fn mapping_of(alloc: Global, rule: &Rule) -> Result<Mapping, Memory> {
     let mut names = NameList::new(alloc);
     let left = atoms_of(alloc, rule.left.as_slice(), &mut names)?;
@@ -21,7 +21,7 @@ pub(crate) fn mapping_of(alloc: Global, rule: &Rule) -> Result<Mapping, Memory> 
     })
 }
 
-/// Atoms by numbers; variables that have no number yet get the next ones.
+/// Atoms by numbers. A variable without a number yet gets the next one.
 pub(crate) fn atoms_of(
     alloc: Global,
     atoms: &[SaidAtom],
@@ -63,7 +63,7 @@ fn variable_of(alloc: Global, name: &str, names: &mut NameList) -> Result<u16, M
     Ok(number)
 }
 
-/// The number of a name, from 0; None if it is not among them.
+/// The place of a name in the list, from 0; None if it is not there.
 pub(crate) fn number_among(names: &NameList, wanted: &Name) -> Option<u16> {
     for (number, name) in names.as_slice().iter().enumerate() {
         if name == wanted {

@@ -1,4 +1,4 @@
-//! Lines that are taken.
+//! Taking lines.
 
 use crate::lines::line_of;
 use crate::spaces::Space;
@@ -8,8 +8,8 @@ use ws_state::Told;
 use ws_written::Line;
 
 impl Space {
-    /// Does what the line says, as said by whom `say_as` names, and tells of it. A line that names a mapping which is not there
-    /// does nothing. If it is refused, the space is of no use.
+    /// Does what the line says, in the name of the curator whom `say_as` gave, and returns its report. A line that names a
+    /// mapping which is not there does nothing. After a refusal, the space is of no use.
     pub fn take(&mut self, alloc: Global, line: &Line) -> Result<Told, Memory> {
         match self.try_take(alloc, line)? {
             Some(told) => Ok(told),
@@ -21,7 +21,7 @@ impl Space {
         }
     }
 
-    // The same; None if the line names a mapping that is not there, or says an update under a number that was given before.
+    // Does what `take` does, but returns None if the line names no known mapping or says an update under a number given before.
     pub(crate) fn try_take(&mut self, alloc: Global, line: &Line) -> Result<Option<Told>, Memory> {
         if self.is_given(line) {
             return Ok(None);
@@ -41,7 +41,7 @@ impl Space {
         }
     }
 
-    // Whether the line says an update under a number that was given before.
+    // Whether the line says an update under a number given before.
     fn is_given(&self, line: &Line) -> bool {
         match line {
             Line::Update(update) => update.number <= self.state.last(),
@@ -49,7 +49,7 @@ impl Space {
         }
     }
 
-    // Notes what the line did that was taken after so many updates stood.
+    // Notes what the line did; `stood` is the number of updates that stood before it.
     fn note(&mut self, told: &Told, stood: usize) -> Result<(), Memory> {
         self.changed.lines = self.changed.lines.saturating_add(1);
         if let Some(replayed) = &told.replayed {

@@ -1,4 +1,4 @@
-//! What the mapping of a question or of a cause is called.
+//! The names of mappings in questions and causes.
 
 use crate::spaces::Space;
 use base_types::Memory;
@@ -7,7 +7,7 @@ use ws_lines::Source;
 use ws_print::Text;
 use ws_written::Rule;
 
-/// The number of a mapping by its name; None if there is none.
+/// The number of the mapping with this name; None if there is none.
 pub(crate) fn number_of(rules: &[Rule], name: &str) -> Option<u16> {
     for (place, rule) in rules.iter().enumerate() {
         if rule.name.as_str() == name {
@@ -17,7 +17,7 @@ pub(crate) fn number_of(rules: &[Rule], name: &str) -> Option<u16> {
     None
 }
 
-/// What is called so, if a mapping is: `_new`, `_fix_m`, or a mapping's name.
+/// The source with this name: `_new`, `_fix_m`, or a mapping's name. None if no mapping has the name.
 pub(crate) fn source_of(rules: &[Rule], name: &str) -> Option<Source> {
     if name == "_new" {
         return Some(Source::Anew);
@@ -28,7 +28,7 @@ pub(crate) fn source_of(rules: &[Rule], name: &str) -> Option<Source> {
     Some(Source::By(number_of(rules, name)?))
 }
 
-/// The name of a mapping; empty if there is none.
+/// The name of the mapping with this number; empty if there is none.
 pub(crate) fn name_of(rules: &[Rule], mapping: u16) -> &str {
     match rules.get(usize::from(mapping)) {
         Some(rule) => rule.name.as_str(),
@@ -36,7 +36,7 @@ pub(crate) fn name_of(rules: &[Rule], mapping: u16) -> &str {
     }
 }
 
-/// What is called so: `_new`, `_fix_m`, or a mapping's name.
+/// The name of a source: `_new`, `_fix_m`, or a mapping's name.
 pub(crate) fn called(alloc: Global, rules: &[Rule], source: Source) -> Result<String, Memory> {
     Ok(match source {
         Source::Anew => String::from_str(alloc, "_new")?,
@@ -51,12 +51,12 @@ pub(crate) fn called(alloc: Global, rules: &[Rule], source: Source) -> Result<St
 }
 
 impl Space {
-    /// What the mapping of a question is called in an answer: its name, `_fix_m` of a `fix`, or `_new`.
+    /// The name that answers use for the source of a question: a mapping's name, `_fix_m` in a `fix`, or `_new`.
     pub fn source_name(&self, alloc: Global, source: Source) -> Result<String, Memory> {
         called(alloc, self.rules.as_slice(), source)
     }
 
-    /// The mapping that a question is of; of a `fix` the one that is repaired.
+    /// The mapping that a question is about; in a `fix`, the mapping that is repaired.
     pub fn source_mapping(&self, source: Source) -> Option<u16> {
         match source {
             Source::By(mapping) => Some(mapping),

@@ -7,8 +7,7 @@ use std::alloc::Global;
 use ws_state::State;
 use ws_written::{Record, Relation, Rule, Stamp};
 
-/// A record of the log: its number, what it says, and the numbers, rising, of the relations whose tuples are others after it
-/// than before it.
+/// A record of the log: its number, what it says, and the numbers of the relations whose tuples it changed, in rising order.
 #[derive(Drop)]
 pub struct Recorded {
     pub at: u32,
@@ -16,11 +15,11 @@ pub struct Recorded {
     pub tables: Vec<u32>,
 }
 
-/// A workspace: the state, the relations and mappings by the numbers that they have there, and the records behind the head.
+/// A workspace: its state, its relations and mappings by their numbers there, and the records after the head.
 ///
-/// Of a mapping each `_` stands as the variable of its own that it is printed as. `created` is the stamp of the head, `first`
-/// the number of records before it, and `folded` the last update's number there. Records that were read have no lines if the log
-/// is not to be told.
+/// In a mapping, each `_` is a variable of its own, with the name that it is printed with. `created` is the stamp of the head,
+/// `first` the number of records before it, and `folded` the last update's number in it. If the space was opened without
+/// `keeps_lines`, the records that were read have no lines.
 #[derive(Drop)]
 pub struct Space {
     pub relations: Vec<Relation>,
@@ -30,16 +29,16 @@ pub struct Space {
     pub created: Stamp,
     pub first: u32,
     pub folded: u32,
-    // Who says what is taken, and when.
+    // Who says the lines that are taken, and when.
     pub(crate) stamp: Stamp,
-    // What lines did that are not recorded yet.
+    // What the lines that are not recorded yet did.
     pub(crate) changed: Changed,
-    // Whether the lines of records that are read are kept.
+    // Whether to keep the lines of records that are read.
     pub(crate) keeps_lines: bool,
 }
 
 impl Space {
-    /// A workspace of which nothing was said.
+    /// An empty workspace.
     pub fn fresh(alloc: Global, created: Stamp) -> Result<Space, Memory> {
         Ok(Space {
             relations: Vec::new(alloc),
@@ -63,7 +62,7 @@ impl Space {
         self.first.saturating_add(number(self.records.len()))
     }
 
-    /// Says when and by whom the lines are said that are taken from now on.
+    /// Sets the time and the curator of the lines that are taken from now on.
     pub fn say_as(&mut self, alloc: Global, time: &str, curator: &str) -> Result<(), Memory> {
         self.stamp = Stamp {
             time: String::from_str(alloc, time)?,
@@ -72,12 +71,12 @@ impl Space {
         Ok(())
     }
 
-    /// Whether each line that was taken is recorded.
+    /// Whether each line taken so far is recorded.
     pub fn is_recorded(&self) -> bool {
         self.changed.lines == 0
     }
 
-    /// Keeps a record of the lines that were taken since the last one.
+    /// Keeps a record of the lines taken since the last record.
     pub fn recorded(&mut self, alloc: Global, record: Record) -> Result<(), Memory> {
         let tables = self.changed.tables(alloc)?;
         self.changed = Changed::new(alloc);

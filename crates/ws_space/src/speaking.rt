@@ -1,4 +1,4 @@
-//! Which updates speak of a relation.
+//! Which updates mention a relation.
 
 use base_types::Tuple;
 use ws_lines::{Deed, SpelledTuple};

@@ -1,4 +1,4 @@
-//! Updates: from what is said to the state's form, and back.
+//! Updates, from the said form to the state's form and back.
 
 use crate::naming::{
     named_tuple, named_tuples, named_value, named_values, null_of, said_fact, said_facts,
@@ -92,7 +92,7 @@ fn spelled(alloc: Global, fact: &NewFact, news: &mut NameList) -> Result<Spelled
     })
 }
 
-// The number of the new unknown that has this name.
+// The number of the new unknown with this name. A name that is not there yet is added.
 fn new_of(name: Name, news: &mut NameList) -> Result<u32, Memory> {
     for (place, other) in news.as_slice().iter().enumerate() {
         if *other == name {
@@ -102,7 +102,7 @@ fn new_of(name: Name, news: &mut NameList) -> Result<u32, Memory> {
     another(name, news)
 }
 
-// The number of one more new unknown.
+// Adds one more new unknown, and returns its number.
 fn another(name: Name, news: &mut NameList) -> Result<u32, Memory> {
     news.push(name)?;
     Ok(u32::try_from(news.len()).unwrap_or(u32::MAX))

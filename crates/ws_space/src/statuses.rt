@@ -1,18 +1,18 @@
-//! How all updates stand, for those who tell of many of them.
+//! The statuses of all updates, for callers that need many of them.
 
 use base_types::Memory;
 use std::alloc::Global;
 use std::collections::BTreeMap;
 use ws_state::{Held, State, Status};
 
-/// How each update stands, by its number.
+/// The status of each update, by its number.
 #[derive(Drop)]
 pub struct Statuses {
     statuses: BTreeMap<u32, Status>,
 }
 
 impl Statuses {
-    /// How the updates of the state stand, found in one walk over them.
+    /// The statuses of the state's updates, found in one walk over them.
     pub fn of(alloc: Global, state: &State) -> Result<Statuses, Memory> {
         let places = by_places(alloc, state)?;
         let mut statuses = BTreeMap::new(alloc);
@@ -24,13 +24,13 @@ impl Statuses {
         Ok(Statuses { statuses })
     }
 
-    /// How the update of this number stands; None if there is none.
+    /// The status of the update with this number; None if there is none.
     pub fn status(&self, number: u32) -> Option<Status> {
         self.statuses.get(&number).copied()
     }
 }
 
-// By the places of the updates among those that are held.
+// The statuses by the places of the held updates.
 fn by_places(alloc: Global, state: &State) -> Result<Vec<Status>, Memory> {
     let mut places = undone_or_given_up(alloc, state.held().as_slice())?;
     for standing in state.order().as_slice() {
@@ -42,7 +42,7 @@ fn by_places(alloc: Global, state: &State) -> Result<Vec<Status>, Memory> {
     Ok(places)
 }
 
-// Each update as if it neither stood nor waited.
+// The statuses as if no update stood or waited.
 fn undone_or_given_up(alloc: Global, updates: &[Held]) -> Result<Vec<Status>, Memory> {
     let mut places = Vec::new(alloc);
     for held in updates {
@@ -55,7 +55,7 @@ fn undone_or_given_up(alloc: Global, updates: &[Held]) -> Result<Vec<Status>, Me
     Ok(places)
 }
 
-// What is undone stays so.
+// Sets the status at a place, unless the update there is undone.
 fn mark(places: &mut [Status], place: usize, status: Status) {
     if let Some(one) = places.get_mut(place) {
         if *one != Status::Undone {

@@ -1,4 +1,4 @@
-//! Texts of the state, which are bytes, and texts as they are said.
+//! Texts of the state, which are bytes, and texts in the said form.
 
 use base_types::{List, Memory};
 use std::alloc::Global;
@@ -10,12 +10,12 @@ pub(crate) fn bytes_of(alloc: Global, text: &str) -> Result<List<u8>, Memory> {
     Ok(List::from_vec(bytes))
 }
 
-/// The text that bytes are; empty if they are none.
+/// The bytes as a text; empty if they are no text.
 pub(crate) fn text_of(bytes: &[u8]) -> &str {
     str::from_utf8(bytes).unwrap_or("")
 }
 
-/// A copy of the text that bytes are.
+/// The bytes as a text of its own.
 pub(crate) fn string_of(alloc: Global, bytes: &[u8]) -> Result<String, Memory> {
     Ok(String::from_str(alloc, text_of(bytes))?)
 }

@@ -1,4 +1,4 @@
-//! The updates of a head that wait: from what is said to the state's form.
+//! The updates of a head that wait, from the said form to the state's form.
 
 use crate::lines::given_of;
 use crate::naming::{named_tuples, named_values};
@@ -14,7 +14,7 @@ use ws_run::{FIX, WANT, fixing_mapping};
 use ws_state::{HeadWaiting, HeadWaitingList};
 use ws_written::{Answer, Drawn, Image, Rule, Update, Waiting};
 
-/// The updates that wait, in the state's form; None if they name a mapping or a variable that is not there.
+/// The updates that wait, in the state's form; None if one names a mapping or a variable that is not there.
 pub(crate) fn waits_of(
     alloc: Global,
     rules: &[Rule],
@@ -108,7 +108,7 @@ fn cause_of(
     }))
 }
 
-// The number of a variable of the mapping.
+// The number of the mapping's variable with this name; None if there is none.
 fn variable_of(
     alloc: Global,
     mappings: &MappingList,
@@ -129,7 +129,7 @@ fn variable_of(
     })
 }
 
-// The image by which it was drawn: of a `fix` it is that of its own values.
+// The image that drew the unknown. For a `fix`, it is made of the values of the update.
 fn image_of(
     alloc: Global,
     source: Source,
