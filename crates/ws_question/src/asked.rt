@@ -7,23 +7,24 @@ use ws_run::Question;
 use ws_space::Space;
 use ws_written::Rule;
 
-/// What an update asks, over what stands now.
+/// The question of an update, over what stands now.
 #[derive(Drop)]
 pub struct AskedNow {
     /// The number of the update.
     pub number: u32,
-    /// The number of the mapping that asks; of a `fix` that of the mapping that is repaired.
+    /// The number of the mapping that asks; in a `fix`, that of the mapping that is repaired.
     pub mapping: u16,
     /// The question, by names.
     pub question: Question,
-    /// The places of the candidates, those first that share most values with what is known.
+    /// The places of the candidates in the order in which they are shown: candidates that share most values with what is known
+    /// come first.
     pub ranked: Vec<usize>,
     /// Whether the update has an answer that does not fit any more.
     pub misfit: bool,
 }
 
 impl AskedNow {
-    /// The tuple that is wanted; None of a question that asks what goes.
+    /// The wanted tuple; None if the question asks which tuples go.
     pub fn wanted(&self) -> Option<&Tuple> {
         if self.question.is_positive {
             return self.question.asked.tuples.get(0);
@@ -31,12 +32,12 @@ impl AskedNow {
         None
     }
 
-    /// The candidate of this number, counted from 1.
+    /// The candidate with this number, counted from 1.
     pub fn candidate(&self, number: usize) -> Option<&Tuple> {
         self.question.candidates.get(number.checked_sub(1)?)
     }
 
-    /// How many candidates there are.
+    /// The number of candidates.
     pub fn count(&self) -> usize {
         self.question.candidates.len()
     }
@@ -47,7 +48,7 @@ impl AskedNow {
     }
 }
 
-/// The question of the update of this number, by names.
+/// The question of this update, with the order of its candidates.
 pub fn asked_now(
     alloc: Global,
     space: &Space,
@@ -67,7 +68,7 @@ pub fn asked_now(
     })
 }
 
-// How many answers the update has, if it waits.
+// The number of answers that the update has, if it waits.
 fn answers_of(space: &Space, number: u32) -> usize {
     for waiting in space.state.waiting().as_slice() {
         if space.number_at(waiting.held) == Some(number) {

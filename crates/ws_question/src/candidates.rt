@@ -1,4 +1,4 @@
-//! The candidates of a question as they are shown.
+//! The candidates of a question, in the form in which they are shown.
 
 use crate::asked::AskedNow;
 use crate::texts::fact_text;
@@ -6,21 +6,21 @@ use base_types::Memory;
 use std::alloc::Global;
 use ws_space::Space;
 
-/// A candidate: its number, counted from 1, and the tuple as a command takes it.
+/// A candidate: its number, counted from 1, and the tuple in the form that commands take.
 #[derive(Drop)]
 pub(crate) struct Candidate {
     pub number: usize,
     pub text: String,
 }
 
-/// Candidates that have a text in them: so many of them, and how many there are.
+/// Candidates that contain a text: the candidates that are shown, and the number of all.
 #[derive(Drop)]
 pub(crate) struct Candidates {
     pub shown: Vec<Candidate>,
     pub fit: usize,
 }
 
-/// The candidates that have the text in them, capitals apart; all if there is none. At most `limit` are shown.
+/// The candidates that contain `like`, ignoring capitals; all if it is None. At most `limit` are shown.
 pub(crate) fn candidates_of(
     alloc: Global,
     space: &Space,
@@ -49,7 +49,7 @@ pub(crate) fn candidates_of(
 }
 
 impl Candidates {
-    // Adds the candidate at a place, with its text, and shows it if not so many are shown yet.
+    // Counts the candidate at a place, and shows it if fewer than `limit` are shown yet.
     fn add(&mut self, place: usize, text: String, limit: usize) -> Result<(), Memory> {
         self.fit = self.fit.saturating_add(1);
         if self.shown.len() < limit {

@@ -1,4 +1,4 @@
-//! The question of an update by names: its lines, its object, the commands that answer it, and what was shown of it.
+//! The question of an update by names: its lines, its object, the commands that answer it, and which questions were shown.
 #![tactic(auto)]
 
 mod asked;

@@ -8,7 +8,7 @@ use std::alloc::Global;
 use ws_print::{Lines, Text, add_count, add_quoted, add_rule};
 use ws_space::Space;
 
-// How much of what the update did before it asked is told.
+// The number of writes before the question that are listed.
 const SO_FAR: usize = 6;
 
 /// The line that asks.
@@ -26,7 +26,7 @@ pub fn question_line(alloc: Global, space: &Space, asked: &AskedNow) -> Result<S
     }
 }
 
-/// The lines of the question: what it asks, at most `limit` of the candidates that have the text `like` in them, and why it asks.
+/// The lines of the question: what it asks, at most `limit` of the candidates that contain `like`, and why it asks.
 pub fn question_lines(
     alloc: Global,
     space: &Space,
@@ -72,7 +72,7 @@ fn add_candidates(
     Ok(())
 }
 
-// That no candidate has the text in it.
+// The line that no candidate contains the text.
 fn none_like(alloc: Global, asked: &AskedNow, like: &str) -> Result<String, Memory> {
     let mut line = Text::from_str(alloc, "  none of ");
     add_count(&mut line, asked.count(), "candidate");
@@ -82,7 +82,7 @@ fn none_like(alloc: Global, asked: &AskedNow, like: &str) -> Result<String, Memo
     Ok(line.done()?)
 }
 
-// How wide the numbers are.
+// The width of the numbers.
 fn number_width(alloc: Global, asked: &AskedNow) -> Result<usize, Memory> {
     let count = asked.count();
     let digits = format!(in alloc; "{count}")?;
@@ -92,7 +92,7 @@ fn number_width(alloc: Global, asked: &AskedNow) -> Result<usize, Memory> {
     Ok(digits.len())
 }
 
-// A line of the list: its number, in so many columns, and its text.
+// A line of the list: its number, padded to `width` columns, and its text.
 fn numbered(alloc: Global, number: &str, width: usize, text: &str) -> Result<String, Memory> {
     let mut line = Text::new(alloc);
     write!(line, "  {number}");
@@ -104,7 +104,7 @@ fn numbered(alloc: Global, number: &str, width: usize, text: &str) -> Result<Str
     Ok(line.done()?)
 }
 
-// By which mapping and since when.
+// Adds the mapping that asks, and the image that made it ask.
 fn add_why(alloc: Global, lines: &mut Lines, space: &Space, asked: &AskedNow) {
     let mut line = Text::from_str(alloc, "why: ");
     if let Some(rule) = asked.rule(space) {
@@ -121,7 +121,7 @@ fn since_line(alloc: Global, space: &Space, asked: &AskedNow) -> Result<String, 
     Ok(format!(in alloc; "     since {since}")?)
 }
 
-// What the update did before it asked.
+// Adds what the update did before it asked.
 fn add_so_far(alloc: Global, lines: &mut Lines, space: &Space, asked: &AskedNow) {
     let so_far = asked.question.so_far.as_slice();
     for write in so_far.iter().take(SO_FAR) {

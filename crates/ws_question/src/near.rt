@@ -1,4 +1,4 @@
-//! Tuples that are like one that is not there.
+//! Tuples that resemble one that is not there.
 
 use crate::texts::inner_text;
 use base_types::{Column, Memory, Tuple, Value};
@@ -10,14 +10,14 @@ use ws_print::{Lines, Text, add_value};
 use ws_space::Space;
 use ws_written::{Fact, Value as Said};
 
-// How many tuples are told.
+// The greatest number of tuples that are returned.
 const TOLD: usize = 3;
 
-// How many tuples that share a value are looked at.
+// The greatest number of tuples with one shared value that are looked at.
 const LOOKED_AT: usize = 200;
 
-/// The tuples that share most values with this one, as commands take them, three at most; if none shares one, those whose first
-/// value is spelled like its own.
+/// At most three tuples that resemble this one, as commands take them: those that share most values with it. If none shares a
+/// value, those whose first value is spelled like its first one.
 pub fn near_texts(alloc: Global, space: &Space, fact: &Fact) -> Result<Vec<String>, Memory> {
     let mut counts: BTreeMap<Tuple, usize> = BTreeMap::new(alloc);
     count_all(alloc, &mut counts, space, fact)?;
@@ -32,7 +32,7 @@ pub fn near_texts(alloc: Global, space: &Space, fact: &Fact) -> Result<Vec<Strin
     Ok(texts.done()?)
 }
 
-// Counts for each tuple how many values it shares with this one.
+// Counts, for each tuple, the values that it shares with this one.
 fn count_all(
     alloc: Global,
     counts: &mut BTreeMap<Tuple, usize>,
@@ -47,7 +47,8 @@ fn count_all(
     Ok(())
 }
 
-// The tuples that were counted, each with how far its count is from the greatest: by these, and then by their order.
+// The counted tuples, those with the greatest counts first, then in their own order. Each has its distance from the greatest
+// number.
 fn most_first(
     alloc: Global,
     counts: &BTreeMap<Tuple, usize>,
@@ -60,7 +61,7 @@ fn most_first(
     Ok(found)
 }
 
-// Counts those that have the value in the column.
+// Counts the tuples that have the value in the column.
 fn count_sharing(
     counts: &mut BTreeMap<Tuple, usize>,
     space: &Space,
@@ -82,7 +83,7 @@ fn count_sharing(
     Ok(())
 }
 
-// Counts the tuple once more.
+// Adds one to the count of the tuple.
 fn count_one(counts: &mut BTreeMap<Tuple, usize>, tuple: &Tuple) -> Result<(), Memory> {
     let count = match counts.get(tuple) {
         Some(count) => *count,
@@ -94,7 +95,7 @@ fn count_one(counts: &mut BTreeMap<Tuple, usize>, tuple: &Tuple) -> Result<(), M
     }
 }
 
-// The first tuples whose first value is spelled like its own.
+// The first tuples whose first value is spelled like this one's.
 fn alike(alloc: Global, space: &Space, fact: &Fact) -> Result<Vec<String>, Memory> {
     let mut texts = Lines::new(alloc);
     let Some(first) = fact.values.first() else {

@@ -1,10 +1,10 @@
-//! The commands that may come after a question.
+//! The commands that may follow a question.
 
 use crate::asked::AskedNow;
 use base_types::Memory;
 use std::alloc::Global;
 
-/// The commands that answer it, show it again, and take its update back.
+/// The commands that answer the question, show it again, and take its update back.
 pub fn question_next(alloc: Global, asked: &AskedNow) -> Result<Vec<String>, Memory> {
     let number = asked.number;
     let mut next = Vec::new(alloc);

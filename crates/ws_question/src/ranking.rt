@@ -5,8 +5,9 @@ use std::alloc::Global;
 use std::collections::BTreeSet;
 use ws_run::Question;
 
-/// The places of the candidates: those first that share most values with the image and with what the update did before it asked,
-/// those of the wanted tuple apart, and then by number. Of a question that asks what goes they are by number.
+/// The places of the candidates. First come the candidates that share most values with the image and with what the update did
+/// before it asked, without the values of the wanted tuple; then they go by number. If the question asks which tuples go, all go
+/// by number.
 pub(crate) fn ranked(alloc: Global, question: &Question) -> Result<Vec<usize>, Memory> {
     let known = known_values(alloc, question)?;
     let counts = counts_of(alloc, question, &known)?;
@@ -17,8 +18,8 @@ pub(crate) fn ranked(alloc: Global, question: &Question) -> Result<Vec<usize>, M
     Ok(places)
 }
 
-// The places of the candidates, each with what goes before it: how far the count of its known values is from the greatest, or
-// nothing if the question asks what goes.
+// The places of the candidates, each after its sort key: the distance of its count of known values from the greatest number. If
+// the question asks which tuples go, all keys are the same.
 fn counts_of(
     alloc: Global,
     question: &Question,
@@ -37,7 +38,7 @@ fn counts_of(
     Ok(counts)
 }
 
-// The values of the image and of what the update did before it asked, but for those of the wanted tuple.
+// The values of the image and of what the update did before it asked, without those of the wanted tuple.
 fn known_values(alloc: Global, question: &Question) -> Result<BTreeSet<Value>, Memory> {
     let mut known = BTreeSet::new(alloc);
     add_image(alloc, &mut known, question.since.as_slice())?;
@@ -78,7 +79,7 @@ fn add_values(alloc: Global, known: &mut BTreeSet<Value>, tuple: &Tuple) -> Resu
     Ok(())
 }
 
-// How many values of the tuple are among these.
+// The number of the tuple's values that are in `known`.
 fn shared_with(tuple: &Tuple, known: &BTreeSet<Value>) -> usize {
     let mut count = 0usize;
     for value in tuple.values.as_slice() {

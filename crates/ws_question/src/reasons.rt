@@ -6,7 +6,7 @@ use std::alloc::Global;
 use ws_run::Reason;
 use ws_space::Space;
 
-/// Why an update waits; None if nothing is in its way.
+/// The reason why an update waits, in words; None if nothing is in its way.
 pub fn reason_words(
     alloc: Global,
     space: &Space,
@@ -33,7 +33,7 @@ pub fn reason_words(
     }
 }
 
-/// That the unknown of this name is not there.
+/// The words for an unknown that is not there.
 pub fn lost_words(alloc: Global, name: Null) -> Result<String, Memory> {
     let name = unknown_text(alloc, name)?;
     Ok(format!(in alloc; "{name} is not there")?)

@@ -6,7 +6,7 @@ use std::alloc::Global;
 use std::collections::BTreeMap;
 use ws_run::Question;
 
-// What was shown of a question.
+// The question of an update, as it was shown.
 #[derive(Drop)]
 struct Seen {
     is_positive: bool,
@@ -14,7 +14,7 @@ struct Seen {
     candidates: TupleList,
 }
 
-/// For each update whose question was shown, what it asked then.
+/// For each update whose question was shown, the question that was shown last.
 #[derive(Drop)]
 pub struct Shown {
     alloc: Global,
@@ -22,7 +22,7 @@ pub struct Shown {
 }
 
 impl Shown {
-    /// No question was shown.
+    /// No question was shown yet.
     pub fn new(alloc: Global) -> Shown {
         Shown {
             alloc,
@@ -30,7 +30,7 @@ impl Shown {
         }
     }
 
-    /// The question is shown.
+    /// Notes that the question is shown.
     pub fn put(&mut self, asked: &AskedNow) -> Result<(), Memory> {
         let seen = Seen {
             is_positive: asked.question.is_positive,
@@ -43,7 +43,7 @@ impl Shown {
         }
     }
 
-    /// Whether another question of the update, or one with other candidates, was the last that was shown.
+    /// Whether a question of this update was shown, and the last one was another question or had other candidates.
     pub fn is_other(&self, asked: &AskedNow) -> bool {
         match self.seen.get(&asked.number) {
             Some(seen) => !seen.is_of(&asked.question),
@@ -51,7 +51,7 @@ impl Shown {
         }
     }
 
-    /// What was shown of the update counts no more.
+    /// Forgets what was shown of the update.
     pub fn forget(&mut self, number: u32) {
         self.seen.remove(&number);
     }

@@ -1,11 +1,11 @@
-//! How an update stands.
+//! The status of an update.
 
 use std::alloc::Global;
 use ws_fault::{Fault, Refusal, Status as Code};
 use ws_space::Space;
 use ws_state::Status;
 
-/// How the update of this number stands. It is refused if there is none.
+/// The status of the update with this number. It is refused if there is none.
 pub fn status_of(alloc: Global, space: &Space, number: u32) -> Result<Status, Refusal> {
     if let Some(status) = space.state.status(number) {
         return Ok(status);
@@ -27,7 +27,7 @@ pub fn status_of(alloc: Global, space: &Space, number: u32) -> Result<Status, Re
     Err(Refusal::Fault(fault))
 }
 
-/// What a status is called.
+/// The word for a status.
 pub fn status_word(status: Status) -> &'static str {
     match status {
         Status::Stands => "stands",

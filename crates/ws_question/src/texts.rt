@@ -5,7 +5,7 @@ use std::alloc::Global;
 use ws_print::{Text, add_count, add_fact, add_unknown};
 use ws_space::{Space, unknown_of};
 
-/// A tuple by names, as a command takes it.
+/// A tuple by names, in the form that commands take.
 pub fn fact_text(alloc: Global, space: &Space, tuple: &Tuple) -> Result<String, Memory> {
     let mut text = Text::new(alloc);
     add_fact(
@@ -16,7 +16,7 @@ pub fn fact_text(alloc: Global, space: &Space, tuple: &Tuple) -> Result<String, 
     Ok(text.done()?)
 }
 
-/// A tuple that came or went, after the one of two words that says so.
+/// A tuple that came or went, after the word for one or the other.
 pub(crate) fn write_text(
     alloc: Global,
     space: &Space,
@@ -32,7 +32,7 @@ pub(crate) fn write_text(
     Ok(format!(in alloc; "{word}{text}")?)
 }
 
-/// A tuple within, as a command takes it.
+/// A tuple within, in the form that commands take.
 pub fn inner_text(alloc: Global, space: &Space, tuple: &Tuple) -> Result<String, Memory> {
     let mut text = Text::new(alloc);
     add_fact(
