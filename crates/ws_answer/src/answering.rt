@@ -16,7 +16,7 @@ use ws_space::Space;
 use ws_state::Status;
 use ws_written::{Choice, Line};
 
-/// An answer as it was said: to which updates, what it chooses, and the record of `--at`.
+/// An answer as it was said: the updates that it is for, what it chooses, and the record of `--at`.
 #[derive(Drop)]
 pub struct SaidAnswer {
     pub numbers: Vec<u32>,
@@ -24,15 +24,15 @@ pub struct SaidAnswer {
     pub at: Option<u32>,
 }
 
-/// What comes of an answer that was said: the answer that is given, or the question, which is asked again.
+/// What an answer leads to: it is given, or the question is asked again.
 #[derive(Drop)]
 enum Met {
     Gives(Given),
     Asks(AskedNow),
 }
 
-/// Answers the first of the updates. It is refused if it does not wait, if it asks nothing or another question, or if the
-/// choice does not fit; and if it cannot go on after that.
+/// Answers the first of the updates. It is refused if the update does not wait, if it asks nothing or another question, if the
+/// choice does not fit, or if the update cannot go on after it.
 pub fn answer(
     alloc: Global,
     space: &mut Space,
@@ -55,7 +55,7 @@ pub fn answer(
     }
 }
 
-// The update waits.
+// Refuses an update that does not wait.
 fn check_waits(alloc: Global, space: &Space, number: u32) -> Result<(), Refusal> {
     let stands = match status_of(alloc, space, number)? {
         Status::Waits => return Ok(()),
@@ -71,7 +71,7 @@ fn check_waits(alloc: Global, space: &Space, number: u32) -> Result<(), Refusal>
     refuse(alloc, words.as_str(), "")
 }
 
-// What comes of the answer, over what the update asks now.
+// What the answer leads to, given what the update asks now.
 fn meet(
     alloc: Global,
     space: &mut Space,
@@ -91,7 +91,7 @@ fn meet(
     }
 }
 
-// The update asks.
+// What the answer leads to if the update asks.
 fn meet_asked(
     alloc: Global,
     space: &Space,
@@ -122,7 +122,7 @@ fn meet_asked(
     }
 }
 
-// Numbers are those of the candidates that were last shown.
+// Refuses numbers if the candidates have changed since they were shown.
 fn check_shown(
     alloc: Global,
     space: &Space,
@@ -147,7 +147,7 @@ fn check_shown(
     refuse_with(alloc, words.as_str(), hint.as_str(), lines)
 }
 
-// The answer that the choice is; None to ask again.
+// The answer with this choice; None if the question is to be asked again.
 fn given_of(
     alloc: Global,
     space: &Space,
@@ -182,7 +182,7 @@ fn go_text(alloc: Global, number: u32) -> Result<String, AllocError> {
     format!(in alloc; "answer {number} go")
 }
 
-// The update was to go on, and asks still.
+// The outcome if the update was to go on, but still asks.
 fn asks_again(alloc: Global, asked: AskedNow) -> Result<Done, Refusal> {
     let report = match go_text(alloc, asked.number) {
         Ok(text) => asking(alloc, Comes::Nothing, "asks", text, asked)?,
@@ -194,7 +194,7 @@ fn asks_again(alloc: Global, asked: AskedNow) -> Result<Done, Refusal> {
     Ok(Done::unrecorded(alloc, report))
 }
 
-// The update asks nothing: it tries again, if that is what was said.
+// What the answer leads to if the update asks nothing: it tries again if the answer is `go`, else the answer is refused.
 fn meet_silent(
     alloc: Global,
     space: &Space,

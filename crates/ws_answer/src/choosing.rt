@@ -1,4 +1,4 @@
-//! From what was said to the choice that fits a question.
+//! From what was said to a choice that fits the question.
 
 use base_types::{Tuple, TupleList};
 use def_memory::Memory;
@@ -12,7 +12,7 @@ use ws_report::refuse;
 use ws_space::Space;
 use ws_written::{Answer, Choice, Fact, Question};
 
-/// The choice for a question; None to try again. It is refused if it names what is no candidate, or is for the other kind of
+/// The choice for the question; None for `go`. It is refused if it names no candidate, or if it is for the other kind of
 /// question.
 pub(crate) fn choose(
     alloc: Global,
@@ -43,7 +43,7 @@ pub(crate) fn choose(
     Ok(Some(taken(alloc, space, asked, chosen.as_slice())?))
 }
 
-// That the question asks which one it is.
+// The refusal: the question asks which candidate the tuple is.
 fn refuse_which<T: Drop>(alloc: Global, asked: &AskedNow) -> Result<T, Refusal> {
     let number = asked.number;
     let words = format!(in alloc;
@@ -52,7 +52,7 @@ fn refuse_which<T: Drop>(alloc: Global, asked: &AskedNow) -> Result<T, Refusal> 
     refuse(alloc, words.as_str(), "")
 }
 
-// That the question asks what goes.
+// The refusal: the question asks which tuples go.
 fn refuse_what<T: Drop>(alloc: Global, asked: &AskedNow) -> Result<T, Refusal> {
     let number = asked.number;
     let words = format!(in alloc;
@@ -68,7 +68,7 @@ fn expanded(alloc: Global, asked: &AskedNow) -> Result<Choice, Refusal> {
     Ok(Choice::Expand)
 }
 
-// The candidates of these numbers.
+// The candidates with these numbers.
 fn numbered(alloc: Global, asked: &AskedNow, numbers: &[u32]) -> Result<Vec<Tuple>, Refusal> {
     let mut chosen = Vec::new(alloc);
     for number in numbers {
@@ -88,7 +88,7 @@ fn refuse_number(alloc: Global, asked: &AskedNow, number: u32) -> Result<Vec<Tup
     refuse(alloc, words.as_str(), hint.as_str())
 }
 
-// The candidates that these tuples are.
+// The candidates that are these tuples.
 fn named(
     alloc: Global,
     space: &Space,
@@ -123,7 +123,7 @@ fn refuse_named(
     refuse(alloc, words.as_str(), hint.as_str())
 }
 
-// The candidate that is spelled most like the text, if one is near.
+// The candidate whose spelling is nearest to the text, if one is near.
 fn nearest_of(
     alloc: Global,
     space: &Space,
@@ -149,7 +149,7 @@ fn texts_of(alloc: Global, space: &Space, tuples: &[Tuple]) -> Result<Vec<String
     Ok(texts)
 }
 
-// The choice of these candidates.
+// The choice that takes these candidates.
 fn taken(
     alloc: Global,
     space: &Space,
@@ -165,7 +165,7 @@ fn taken(
     }
 }
 
-// The tuples in order, each once.
+// The tuples in order, without repetition.
 fn each_once(alloc: Global, space: &Space, tuples: &[Tuple]) -> Result<Vec<Fact>, Refusal> {
     let rising = in_order(alloc, tuples)?;
     let mut facts = Vec::new(alloc);
@@ -191,7 +191,7 @@ fn facts_of(alloc: Global, space: &Space, tuples: &TupleList) -> Result<Vec<Fact
     Ok(facts)
 }
 
-/// The answer that gives the choice to the question.
+/// The answer that makes this choice at the question.
 pub(crate) fn answer_to(
     alloc: Global,
     space: &Space,

@@ -1,4 +1,4 @@
-//! Answers that are given.
+//! Giving answers.
 
 use crate::records::steps_of;
 use def_memory::Memory;
@@ -12,21 +12,22 @@ use ws_space::Space;
 use ws_state::{Mark, Told};
 use ws_written::Line;
 
-/// An answer that is given: its line, and what is told of it.
+/// An answer to give: its line, and the line as the reply prints it.
 #[derive(Drop)]
 pub(crate) struct Given {
     pub line: Line,
     pub text: String,
 }
 
-/// What else is told of an answer: of a repair what is left of the violations, and what may be said next.
+/// What the report says after a repair: the number of violations that are left, and the commands that may follow.
 #[derive(Drop)]
 struct Left {
     also: Vec<String>,
     next: Vec<String>,
 }
 
-/// Gives an answer to an update that waits. It is refused if the steps do not suffice, or if something else is in its way.
+/// Gives an answer to an update that waits. It is refused if the steps do not suffice, or if something other than a question is
+/// in its way.
 pub(crate) fn give(
     alloc: Global,
     space: &mut Space,
@@ -77,7 +78,7 @@ fn done(
     Ok(report)
 }
 
-/// What is told of an update that asks.
+/// The report of an update that asks.
 pub(crate) fn asking(
     alloc: Global,
     status: Status,
@@ -98,7 +99,7 @@ pub(crate) fn asking(
     }
 }
 
-// Something else than a question is in its way.
+// The refusal of an update that is stopped by something other than a question.
 fn cannot(alloc: Global, space: &Space, number: u32, reason: &Reason) -> Result<Report, Refusal> {
     let reason = reason_words(alloc, space, Some(reason))?;
     let words = format!(in alloc; "update {number} cannot go on: {reason}")?;
@@ -106,7 +107,7 @@ fn cannot(alloc: Global, space: &Space, number: u32, reason: &Reason) -> Result<
     refuse(alloc, words.as_str(), hint.as_str())
 }
 
-// After a repair, how many violations are left of its mapping.
+// For a repair: the words for the violations of its mapping that are left.
 fn left_of(alloc: Global, space: &Space, number: u32) -> Result<Left, Memory> {
     let mut left = Left {
         also: Vec::new(alloc),
@@ -121,7 +122,7 @@ fn left_of(alloc: Global, space: &Space, number: u32) -> Result<Left, Memory> {
 }
 
 impl Left {
-    // So many violations of the mapping of this name are left.
+    // Adds the words for `count` violations of the mapping that are left.
     fn add(&mut self, alloc: Global, name: &str, count: usize) -> Result<(), Memory> {
         if count == 0 {
             self.also
@@ -137,7 +138,7 @@ impl Left {
     }
 }
 
-// The mapping that the update repairs, if it is a repair.
+// The mapping that the update repairs; None if it is no repair.
 fn fixed_by(space: &Space, number: u32) -> Option<u16> {
     match &space.state.update(number)?.deed {
         Deed::Fix(mapping, _) => Some(*mapping),

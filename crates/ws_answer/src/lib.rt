@@ -1,4 +1,4 @@
-//! Answers to updates that wait, and what is undone and redone.
+//! Answers to updates that wait, `undo` and `redo`.
 #![tactic(auto)]
 
 mod answering;

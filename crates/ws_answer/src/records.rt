@@ -1,4 +1,4 @@
-//! What is known of updates by their numbers.
+//! Looking up updates by their numbers.
 
 use def_memory::Memory;
 use std::alloc::Global;
@@ -34,7 +34,7 @@ pub(crate) fn waiting_numbers(alloc: Global, space: &Space) -> Result<BTreeSet<u
     Ok(numbers)
 }
 
-/// The numbers of the updates that are undone, or of those that are not.
+/// The numbers of the updates that are undone, or of all others.
 pub(crate) fn undone_numbers(
     alloc: Global,
     space: &Space,
@@ -65,7 +65,7 @@ pub(crate) fn answered_numbers(alloc: Global, space: &Space) -> Result<BTreeSet<
     Ok(numbers)
 }
 
-/// The budget of the update; 0 if there is none.
+/// The budget of the update; 0 if there is no update with this number.
 pub(crate) fn steps_of(space: &Space, number: u32) -> u32 {
     match space.state.update(number) {
         Some(update) => update.steps,

@@ -12,7 +12,7 @@ use ws_space::Space;
 use ws_state::{Again, Effect, FilledList, Moved, MovedList, Replayed, Status, Told};
 use ws_written::Line;
 
-/// What a replay is told with: the updates that were named, hints, and what may be said next if nothing waits.
+/// What the report of a replay needs: the updates that were named, hints, and the commands that may follow if nothing waits.
 #[derive(Drop)]
 pub(crate) struct ReplayWords {
     pub numbers: Vec<u32>,
@@ -20,7 +20,7 @@ pub(crate) struct ReplayWords {
     pub next: Vec<String>,
 }
 
-/// Does a line that replays the log, and tells what is different.
+/// Does a line that replays the log, and reports what has changed.
 pub(crate) fn replay(
     alloc: Global,
     space: &mut Space,
@@ -52,7 +52,7 @@ fn replayed(
     }
 }
 
-// What the line did, and what came of it to the mappings that were in force before.
+// The report of the line, with the mappings that are no longer in force or in force again.
 fn report_of(
     alloc: Global,
     space: &Space,
@@ -68,7 +68,7 @@ fn report_of(
     Ok(report)
 }
 
-// The report with its hints and what may be said next; `questions` is that if something waits.
+// Adds the hints and the commands that may follow to the report; `questions` are those if an update waits.
 fn with_words(report: Report, asked: ReplayWords, questions: Vec<String>) -> Report {
     let ReplayWords { notes, next, .. } = asked;
     let mut report = report;
@@ -82,7 +82,7 @@ fn with_words(report: Report, asked: ReplayWords, questions: Vec<String>) -> Rep
     report
 }
 
-// What may be said next if one of the updates waits.
+// The commands that may follow if one of the updates waits.
 fn questions_of(alloc: Global, again: &[AgainTold]) -> Result<Vec<String>, AllocError> {
     let mut next = Vec::new(alloc);
     if one_waits(again) {
@@ -100,7 +100,7 @@ fn one_waits(again: &[AgainTold]) -> bool {
     false
 }
 
-// What came and went, by no mapping.
+// The effect of the replay. No mapping is noted for what came and went.
 fn effect_of(alloc: Global, replayed: &Replayed) -> Result<Effect, Memory> {
     let came = moved_of(alloc, &replayed.came)?;
     let went = moved_of(alloc, &replayed.went)?;
@@ -112,7 +112,7 @@ fn effect_of(alloc: Global, replayed: &Replayed) -> Result<Effect, Memory> {
     })
 }
 
-// Tuples that came or went by no mapping.
+// Tuples that came or went, without a mapping.
 fn moved_of(alloc: Global, tuples: &TupleList) -> Result<MovedList, Memory> {
     let mut moved = MovedList::new(alloc);
     for tuple in tuples.as_slice() {
@@ -124,7 +124,7 @@ fn moved_of(alloc: Global, tuples: &TupleList) -> Result<MovedList, Memory> {
     Ok(moved)
 }
 
-// What is told of the other updates that are otherwise now, and of those that were named and wait now.
+// The reports of the other updates that changed, and of the named ones that wait now.
 fn again_of(
     alloc: Global,
     space: &mut Space,
@@ -169,7 +169,7 @@ fn add_waiting(
     Ok(())
 }
 
-// The mappings that are no longer in force, and those that are again.
+// Lines for the mappings that are no longer in force, and for the mappings that are in force again.
 fn forces_told(alloc: Global, space: &Space, before: &[u16]) -> Result<Vec<String>, Memory> {
     let after = space.state.in_force();
     let mut told = Lines::new(alloc);
@@ -178,7 +178,7 @@ fn forces_told(alloc: Global, space: &Space, before: &[u16]) -> Result<Vec<Strin
     Ok(told.done()?)
 }
 
-// Tells how the mappings are that are among the first ones alone.
+// Adds a line for each mapping that is in `ones` alone.
 fn add_apart(
     alloc: Global,
     space: &Space,
@@ -195,7 +195,7 @@ fn add_apart(
     }
 }
 
-// The words on an update that is otherwise now.
+// The report of an update that changed.
 fn again_told(alloc: Global, space: &mut Space, again: Again) -> Result<AgainTold, Memory> {
     let number = again.number;
     let how = again_words(alloc, space, again)?;

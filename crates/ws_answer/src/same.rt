@@ -1,4 +1,4 @@
-//! `--at`: that a question is still the one that it was after a record.
+//! `--at`: whether a question is still the one that it was after a record.
 
 use std::alloc::{AllocError, Global};
 use ws_fault::Refusal;
@@ -7,8 +7,8 @@ use ws_report::{CANDIDATES, refuse, refuse_with};
 use ws_run::{Question, Reason};
 use ws_space::Space;
 
-/// Refuses a question that is another than after the record, the state after which is `past` if it is not the last one; and a
-/// record that there is none of, or that was folded.
+/// Refuses a question that differs from the one after record `at`, and a record that is not there or was folded. `past` is the
+/// space after that record, if it is not the last one.
 pub(crate) fn check_since(
     alloc: Global,
     space: &Space,
@@ -53,7 +53,7 @@ fn look_again(alloc: Global, number: u32) -> Result<String, AllocError> {
     format!(in alloc; "look again: questions {number}")
 }
 
-// Whether the update asked this question in the past.
+// Whether the update asked this question in `past`.
 fn asked_so(alloc: Global, past: Option<&mut Space>, asked: &AskedNow) -> Result<bool, Refusal> {
     let Some(past) = past else {
         return Ok(false);

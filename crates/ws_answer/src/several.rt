@@ -21,8 +21,8 @@ struct Answers {
     done: Vec<u32>,
 }
 
-/// Answers updates, one after the other: `new` to each question of which tuple it is, until the update is done or asks what
-/// goes; or `go` to each that has nothing in its way. It is refused if none of them waits.
+/// Answers updates, one after the other. Either it answers `new` to each question which candidate a tuple is, until the update is
+/// done or asks which tuples go; or it says `go` to each update with nothing in its way. It is refused if none of them waits.
 pub fn answer_several(
     alloc: Global,
     space: &mut Space,
@@ -53,7 +53,7 @@ fn is_go(choice: &SaidChoice) -> bool {
     }
 }
 
-// Those of the updates that wait.
+// The updates that wait. It is refused if none does.
 fn waiting_of(alloc: Global, space: &Space, numbers: &[u32]) -> Result<Vec<u32>, Refusal> {
     let waiting = among(alloc, space, numbers)?;
     if waiting.is_empty() {
@@ -65,7 +65,7 @@ fn waiting_of(alloc: Global, space: &Space, numbers: &[u32]) -> Result<Vec<u32>,
     Ok(waiting)
 }
 
-// Those of the updates that wait, in the same order.
+// The updates that wait, in the same order.
 fn among(alloc: Global, space: &Space, numbers: &[u32]) -> Result<Vec<u32>, Memory> {
     let all = waiting_numbers(alloc, space)?;
     let mut waiting = Vec::new(alloc);
@@ -92,7 +92,7 @@ fn nothing_changed(alloc: Global, text: String) -> Result<Report, Memory> {
     Ok(report)
 }
 
-// The question of which tuple it is, if that is why an update waits.
+// The question which candidate a tuple is, if the update waits for its answer.
 fn positive(reason: Option<Reason>) -> Option<Asked> {
     match reason {
         Some(Reason::Asks(question)) if question.is_positive => Some(question.asked),
@@ -101,7 +101,7 @@ fn positive(reason: Option<Reason>) -> Option<Asked> {
 }
 
 impl Answers {
-    // Answers each of the updates, and tells of it.
+    // Answers each of the updates, and reports it.
     fn all(
         &mut self,
         alloc: Global,
@@ -124,7 +124,7 @@ impl Answers {
         Ok(self.told(alloc, space, take, text, mark)?)
     }
 
-    // Tries an update again that has nothing in its way.
+    // Lets an update try again if nothing is in its way.
     fn go(&mut self, alloc: Global, space: &mut Space, number: u32) -> Result<(), Refusal> {
         if !is_waiting(space, number) || space.question(alloc, number)?.is_some() {
             return Ok(());
@@ -133,7 +133,7 @@ impl Answers {
         Ok(())
     }
 
-    // Answers an update's questions of which tuple it is, one after the other.
+    // Answers, one after the other, an update's questions which candidate a tuple is.
     fn expand(&mut self, alloc: Global, space: &mut Space, number: u32) -> Result<(), Refusal> {
         let mut next = positive(space.question(alloc, number)?);
         for _ in 0..u64::MAX {
@@ -145,7 +145,7 @@ impl Answers {
         Ok(())
     }
 
-    // Answers one question, and gives the next one of which tuple it is.
+    // Answers one question, and returns the next of the same kind.
     fn expand_one(
         &mut self,
         alloc: Global,
@@ -158,7 +158,7 @@ impl Answers {
         Ok(positive(reason))
     }
 
-    // Takes the line of an update, keeps it, and tells why the update waits, if it does.
+    // Takes the line of an update, keeps it, and returns the reason if the update waits.
     fn take(
         &mut self,
         alloc: Global,
@@ -178,7 +178,7 @@ impl Answers {
         }
     }
 
-    // Keeps the line, and the number of an update that is done.
+    // Keeps the line, and the number of the update if it is done.
     fn keep(&mut self, number: u32, line: Line, is_done: bool) -> Result<(), AllocError> {
         self.lines.push(line)?;
         if is_done {
@@ -214,7 +214,7 @@ impl Answers {
     }
 }
 
-// Takes the line of an update, and tells why it waits, if it does. It is refused if its steps do not suffice.
+// Takes the line of an update, and returns the reason if it waits. It is refused if its steps do not suffice.
 fn take_line(
     alloc: Global,
     space: &mut Space,
@@ -231,7 +231,7 @@ fn take_line(
     }
 }
 
-// Which updates are done, and which wait.
+// The lines for the updates that are done, and for the updates that wait.
 fn also_of(alloc: Global, done: &[u32], waiting: &[u32]) -> Result<Vec<String>, Memory> {
     let mut also = Vec::new(alloc);
     if let [_, ..] = done {

@@ -11,14 +11,14 @@ use ws_report::{Done, Note, ranges_text, refuse};
 use ws_space::Space;
 use ws_written::Line;
 
-/// The numbers that a command changes, rising, and the others that it names.
+/// The numbers that a command changes, in rising order, and the others that it names.
 #[derive(Drop)]
 struct Parted {
     take: Vec<u32>,
     rest: Vec<u32>,
 }
 
-// Parts the numbers, each once, by whether their updates are there and undone or not, as is wanted.
+// Splits the numbers, each taken once: `take` gets the updates that are undone (or not, by `is_undone`), `rest` all others.
 fn part(alloc: Global, space: &Space, numbers: &[u32], is_undone: bool) -> Result<Parted, Refusal> {
     let rising = in_order(alloc, numbers)?;
     let mut parted = Parted {
@@ -44,7 +44,7 @@ fn in_order(alloc: Global, numbers: &[u32]) -> Result<BTreeSet<u32>, Refusal> {
     Ok(rising)
 }
 
-// A hint about these numbers, if there are any.
+// A hint about these numbers; none if there are no numbers.
 fn note_of(alloc: Global, words: &str, numbers: &[u32]) -> Result<Vec<Note>, Memory> {
     let mut notes = Vec::new(alloc);
     if let [_, ..] = numbers {
@@ -67,7 +67,7 @@ fn to_undo(alloc: Global, space: &Space, numbers: &[u32]) -> Result<Parted, Refu
     Ok(parted)
 }
 
-/// Undoes updates. It is refused if none of them can be.
+/// Undoes updates. It is refused if none of them can be undone.
 pub fn undo(alloc: Global, space: &mut Space, numbers: &[u32]) -> Result<Done, Refusal> {
     let Parted { take, rest } = to_undo(alloc, space, numbers)?;
     let notes = note_of(alloc, "not there, or undone already: ", rest.as_slice())?;
@@ -83,7 +83,7 @@ pub fn undo(alloc: Global, space: &mut Space, numbers: &[u32]) -> Result<Done, R
     replay(alloc, space, line, asked)
 }
 
-/// Takes the answers of updates back. It is refused if none of the updates stands or waits.
+/// Takes back the answers of updates. It is refused if each of the updates is undone or not there.
 pub fn undo_answers(alloc: Global, space: &mut Space, numbers: &[u32]) -> Result<Done, Refusal> {
     let Parted { take, .. } = to_undo(alloc, space, numbers)?;
     let answered = answered_of(alloc, space, take.as_slice())?;
@@ -101,7 +101,7 @@ pub fn undo_answers(alloc: Global, space: &mut Space, numbers: &[u32]) -> Result
     replay(alloc, space, line, asked)
 }
 
-// Those of the updates that stand or wait with answers.
+// The updates that stand or wait with answers.
 fn answered_of(alloc: Global, space: &Space, numbers: &[u32]) -> Result<Vec<u32>, Memory> {
     let all = answered_numbers(alloc, space)?;
     let mut answered = Vec::new(alloc);

@@ -1,4 +1,4 @@
-//! The columns of a file compared with those of the relation.
+//! The columns of a file compared with the columns of the relation.
 
 use crate::columns::has_twice;
 use crate::refusing::{add_names, faults, meant_of};

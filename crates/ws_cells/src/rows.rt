@@ -61,7 +61,7 @@ fn refused(alloc: Global, path: &str, all: Vec<String>) -> Result<Loaded, Refusa
     faults(words, None, all)
 }
 
-// All faults by line; on a line, those of quotes come first. Both lists are in the order of the file.
+// All faults by line; on a line, faults of quotes come first. Both lists are in the order of the file.
 fn all_faults(
     alloc: Global,
     quotes: &[CsvFault],

@@ -15,10 +15,10 @@ use ws_space::Space;
 use ws_state::Mark;
 use ws_written::{Line, Update};
 
-/// How often violations are looked for.
+/// The greatest number of rounds in which violations are searched for.
 const ROUNDS: u32 = 10;
 
-/// The repairs of a mapping so far: their lines, those that are done and those that ask, and each repair that waits.
+/// The repairs of a mapping so far: their lines, the updates that are done, the updates that ask, and each repair that waits.
 #[derive(Drop)]
 struct Repairs {
     mapping: u16,
@@ -30,15 +30,15 @@ struct Repairs {
     waiting: BTreeSet<Tuple>,
 }
 
-/// What the repairs came to: what is told of them, and the line that put the mapping in force, if one did.
+/// The outcome of the repairs: the report, and the line that put the mapping in force, if there is one.
 #[derive(Drop)]
 struct Repaired {
     report: Report,
     forced: Option<Line>,
 }
 
-/// Repairs what violates a mapping, each repair with a budget, and puts it in force if nothing is left. It is refused if the
-/// steps do not suffice or the repairs violate it anew again and again.
+/// Repairs the violations of a mapping, each repair with its own budget, and puts the mapping in force if none is left. It is
+/// refused if the steps do not suffice, or if the repairs cause new violations in each round.
 pub fn adopt(alloc: Global, space: &mut Space, name: &str, steps: u32) -> Result<Done, Refusal> {
     if is_in_force(space, name) {
         return Ok(Done::nothing(alloc, "in force already", line_of(alloc, name)?));
@@ -70,7 +70,7 @@ fn refuse_rounds(alloc: Global, name: &str) -> Result<Repaired, Refusal> {
 }
 
 impl Repairs {
-    // Makes the repairs, and what comes of them.
+    // Makes the repairs, and returns their outcome.
     fn make_all(self, alloc: Global, space: &mut Space, name: &str) -> Result<Done, Refusal> {
         let mut repairs = self;
         match repairs.repaired(alloc, space, name) {
@@ -82,13 +82,13 @@ impl Repairs {
         }
     }
 
-    // The lines of the repairs, and the one that put the mapping in force, if one did.
+    // The lines of the repairs, and the line that put the mapping in force, if there is one.
     fn into_lines(self, forced: Option<Line>) -> Result<Vec<Line>, AllocError> {
         let Repairs { lines, .. } = self;
         add_line(lines, forced)
     }
 
-    // Makes rounds of repairs until there is nothing to repair.
+    // Makes rounds of repairs until nothing is left to repair.
     fn repaired(
         &mut self,
         alloc: Global,
@@ -103,7 +103,7 @@ impl Repairs {
         refuse_rounds(alloc, name)
     }
 
-    // Repairs the violations that no repair waits for; whether there were any.
+    // Repairs the violations that no repair waits for. Returns whether there were any.
     fn round(&mut self, alloc: Global, space: &mut Space, name: &str) -> Result<bool, Refusal> {
         let open = open_repairs(alloc, space, self.mapping, &self.waiting)?;
         for repair in open.iter() {
@@ -147,7 +147,7 @@ impl Repairs {
         Ok(())
     }
 
-    // Puts the mapping in force if it has no violation, and tells of all.
+    // Puts the mapping in force if it has no violation, and reports all repairs.
     fn end(&self, alloc: Global, space: &mut Space, name: &str) -> Result<Repaired, Refusal> {
         let left = space.count_violations(alloc, self.mapping)?;
         if left == 0 {
@@ -164,7 +164,7 @@ impl Repairs {
         })
     }
 
-    // How many violations were repaired, and how many repairs ask.
+    // The lines for the number of repaired violations, and the number of repairs that ask.
     fn told(&self, alloc: Global) -> Result<Lines, Memory> {
         let mut told = Lines::new(alloc);
         add_numbers(
@@ -212,7 +212,7 @@ impl Repairs {
         Ok(report)
     }
 
-    // Some violations are left.
+    // The report if some violations are left.
     fn left(
         &self,
         alloc: Global,
@@ -232,7 +232,7 @@ impl Repairs {
         Ok(report)
     }
 
-    // That so many violations are left.
+    // The lines of the repairs, and the number of violations that are left.
     fn left_words(&self, alloc: Global, name: &str, left: usize) -> Result<Vec<String>, Memory> {
         let mut also = self.told(alloc)?;
         let left = count_text(alloc, left, "violation")?;
@@ -241,7 +241,7 @@ impl Repairs {
     }
 }
 
-// What may be said next if violations are left.
+// The commands that may follow if violations are left.
 fn next_of(alloc: Global, name: &str) -> Result<Vec<String>, AllocError> {
     let mut next = Lines::new(alloc);
     next.push_str("questions");
@@ -249,7 +249,7 @@ fn next_of(alloc: Global, name: &str) -> Result<Vec<String>, AllocError> {
     next.done()
 }
 
-// How many there are, and their numbers, if there are any.
+// Adds a line with the count of the numbers and the numbers, if there are any.
 fn add_numbers(
     alloc: Global,
     told: &mut Lines,
@@ -276,7 +276,7 @@ fn update_of(alloc: Global, space: &Space, name: &str, repair: &Tuple) -> Result
     Ok(Update::Fix(name, values))
 }
 
-// The updates that are done, and those that wait.
+// The updates that are done and the updates that wait, as a report counts them.
 fn counted(alloc: Global, done: &[u32], wait: &[u32]) -> Result<Counted, AllocError> {
     let mut numbers = Vec::new(alloc);
     numbers.extend_from_slice(done)?;
@@ -285,7 +285,7 @@ fn counted(alloc: Global, done: &[u32], wait: &[u32]) -> Result<Counted, AllocEr
     Ok(Counted { numbers, waiting })
 }
 
-// Each violation waits already.
+// The report if each violation waits already.
 fn all_wait(alloc: Global, name: &str, left: usize) -> Result<Report, Memory> {
     let left = count_text(alloc, left, "violation")?;
     let mut also = Vec::new(alloc);

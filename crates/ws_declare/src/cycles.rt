@@ -7,14 +7,14 @@ use std::collections::BTreeMap;
 use ws_space::Space;
 use ws_written::{Atom, Rule, Term};
 
-/// By which mapping a relation leads to another; None is the new one.
+/// The relations that one leads to, each with the mapping that leads there; None is the new mapping.
 type Ways = BTreeMap<u32, Option<u16>>;
 
-/// Which relations lead to which: an atom of the one stands on the left of a mapping, and an atom of the other without an
-/// unknown on its right.
+/// For each relation, the relations that it leads to. One leads to another if an atom of it is on the left of a mapping, and an
+/// atom of the other, without an unknown, on the right.
 type Leads = BTreeMap<u32, Ways>;
 
-// Whether each variable of the atom stands on the left.
+// Whether each variable of the atom is on the left side.
 fn is_plain(rule: &Rule, atom: &Atom) -> bool {
     for term in atom.terms.iter() {
         if let Term::Variable(name) = term {
@@ -44,7 +44,7 @@ fn add_way(
     Ok(())
 }
 
-// Adds what leads where by the mapping, unless a mapping before it does.
+// Adds the relations that the mapping makes lead to others, unless an earlier mapping does so.
 fn add_rule(alloc: Global, leads: &mut Leads, rule: &Rule, by: Option<u16>) -> Result<(), Memory> {
     for atom in rule.right.iter() {
         if is_plain(rule, atom) {
@@ -56,7 +56,7 @@ fn add_rule(alloc: Global, leads: &mut Leads, rule: &Rule, by: Option<u16>) -> R
     Ok(())
 }
 
-// What leads where by the mappings that are not gone, and then by the new one.
+// Which relations lead to which by the mappings that are not gone, and then by the new one.
 fn leads_of(alloc: Global, space: &Space, rule: &Rule) -> Result<Leads, Memory> {
     let mut leads = BTreeMap::new(alloc);
     for (place, other) in space.rules.iter().enumerate() {
@@ -68,8 +68,8 @@ fn leads_of(alloc: Global, space: &Space, rule: &Rule) -> Result<Leads, Memory> 
     Ok(leads)
 }
 
-/// A relation on a way: the place on it before, if there is one, the mapping that leads here, and whether the new mapping
-/// does so somewhere on the way.
+/// A relation on a way: the place of the stop before it, if there is one; the mapping that leads here; and whether the new
+/// mapping leads to some stop of the way.
 #[derive(Clone, Copy)]
 struct Stop {
     relation: u32,
@@ -78,7 +78,8 @@ struct Stop {
     has_new: bool,
 }
 
-/// The ways from a relation, each relation reached once, and the last step of one that comes back.
+/// The ways from a relation, which reach each relation once. `closing` is the last step of a way that comes back by the new
+/// mapping.
 #[derive(Drop)]
 struct Walk {
     stops: Vec<Stop>,
@@ -87,7 +88,7 @@ struct Walk {
 }
 
 impl Walk {
-    // The stop before this one on its way, if there is one.
+    // The stop before this one on its way; None at the first stop.
     fn before(&self, stop: Stop) -> Option<Stop> {
         self.stops.get(stop.before?).copied()
     }
@@ -101,7 +102,7 @@ impl Walk {
         false
     }
 
-    // Goes on from a stop to the relations to which it leads.
+    // Adds the relations that a stop leads to.
     fn go_on(&mut self, ways: &Ways, start: u32, place: usize, stop: Stop) -> Result<(), Memory> {
         for (to, by) in ways {
             let next = Stop {
@@ -124,7 +125,7 @@ impl Walk {
     }
 }
 
-// The ways from the relation, nearest first, up to one that comes back by the new mapping.
+// The ways from the relation, nearest stops first, up to one that comes back by the new mapping.
 fn walk_from(alloc: Global, leads: &Leads, start: u32) -> Result<Walk, Memory> {
     let mut walk = Walk {
         stops: Vec::new(alloc),
@@ -168,7 +169,7 @@ fn step_text(
     Ok(format!(in alloc; "{from} -> {to} by {by}")?)
 }
 
-// The steps of the way that ends so, between commas.
+// The steps of the way with this last stop, between commas.
 fn steps_text(
     alloc: Global,
     space: &Space,
@@ -193,7 +194,8 @@ fn steps_text(
     Ok(text)
 }
 
-/// The plain cycle that the mapping closes with those that are not gone, if it closes one: `A -> B by M, ..`.
+/// The plain cycle that the mapping closes, together with the mappings that are not gone: `A -> B by M, ..`. None if it closes
+/// none.
 pub(crate) fn cycle_words(
     alloc: Global,
     space: &Space,

@@ -12,18 +12,18 @@ use ws_report::{Done, Note, Report, Taken, lines_of, told_line};
 use ws_space::{Space, Violation};
 use ws_written::{Line, Rule};
 
-/// The most violations that are told.
+/// The greatest number of violations that are printed.
 const TOLD: usize = 3;
 
-/// A mapping that was declared: what is told of it, and the line that put it in force, if one did.
+/// A declared mapping: its report, and the line that put it in force, if there is one.
 #[derive(Drop)]
 struct Declared {
     report: Report,
     forced: Option<Line>,
 }
 
-/// Declares a mapping. It comes into force if it has no violation, and is proposed else. It is refused if its name is taken,
-/// if it closes a plain cycle, or at a limit.
+/// Declares a mapping. If it has no violation it is put in force, else it is proposed. It is refused if its name is taken, if it
+/// closes a plain cycle, or at a limit.
 pub fn declare_mapping(alloc: Global, space: &mut Space, rule: Rule) -> Result<Done, Refusal> {
     match apart(alloc, &rule) {
         Ok(meant) => declare(alloc, space, Line::Mapping(rule), &meant),
@@ -34,7 +34,7 @@ pub fn declare_mapping(alloc: Global, space: &mut Space, rule: Rule) -> Result<D
     }
 }
 
-// Declares the mapping of a line, which without `_` is `meant`.
+// Declares the mapping of a line. `meant` is the mapping without `_`.
 fn declare(alloc: Global, space: &mut Space, line: Line, meant: &Rule) -> Result<Done, Refusal> {
     if is_declared(space, meant) {
         return there_already(alloc, space, &line);
@@ -72,7 +72,7 @@ fn take_mapping(
     proposed(alloc, space, mapping, violations.as_slice(), text, notes)
 }
 
-// The mapping comes into force.
+// Puts the mapping in force, and reports it.
 fn enforced(
     alloc: Global,
     space: &mut Space,
@@ -90,7 +90,7 @@ fn enforced(
     })
 }
 
-// The mapping is proposed, since it has violations.
+// Reports the mapping as proposed, because it has violations.
 fn proposed(
     alloc: Global,
     space: &Space,
@@ -111,7 +111,7 @@ fn proposed(
     })
 }
 
-// How many violations there are, and the first of them.
+// The lines for the number of violations, and for the first of them.
 fn violations_told(
     alloc: Global,
     space: &Space,

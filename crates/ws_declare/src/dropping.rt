@@ -33,7 +33,7 @@ fn dropped(
     Ok(report)
 }
 
-/// Whether the mapping of this name is in force.
+/// Whether the mapping with this name is in force.
 pub(crate) fn is_in_force(space: &Space, name: &str) -> bool {
     match space.mapping(name) {
         Some(mapping) => space.state.in_force().contains(&mapping),

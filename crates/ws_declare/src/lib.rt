@@ -1,4 +1,4 @@
-//! Relations and mappings: declared, put in force after repairs, and dropped.
+//! Relations and mappings are declared; mappings are put in force after repairs, and dropped.
 #![tactic(auto)]
 
 mod adopting;

@@ -9,8 +9,8 @@ use ws_report::Note;
 use ws_space::Space;
 use ws_written::{Atom, Rule, Term};
 
-/// The hints about a mapping, each `_` of which is a variable of its own: a variable that stands once and is a text of its
-/// column, and an atom of the right side that shares no variable with the left one.
+/// The hints about a mapping in which each `_` is a variable of its own. One is about a variable that occurs once and whose name
+/// is a text of its column; the other is about an atom of the right side that shares no variable with the left side.
 pub(crate) fn lints_of(alloc: Global, space: &Space, rule: &Rule) -> Result<Vec<Note>, Memory> {
     let mut notes = Vec::new(alloc);
     for atom in rule.left.iter() {
@@ -42,7 +42,7 @@ fn stands_once(rule: &Rule, name: &str) -> bool {
     left.saturating_add(count_in(rule.right.as_slice(), name)) == 1
 }
 
-// Whether the text stands in the column.
+// Whether some tuple has the text in the column.
 fn is_text_of(
     alloc: Global,
     space: &Space,
@@ -60,7 +60,7 @@ fn is_text_of(
     Ok(facts.scan(relation, column, &value, None).is_some())
 }
 
-// The variables of the atom that stand once in the mapping and are texts of their columns.
+// Adds a hint for each variable of the atom that occurs once in the mapping and whose name is a text of its column.
 fn add_lone(
     alloc: Global,
     space: &Space,
@@ -93,7 +93,7 @@ fn has_variable(atom: &Atom) -> bool {
     false
 }
 
-// Whether the atoms have a variable in common.
+// Whether the atom has a variable in common with one of the others.
 fn share(one: &Atom, others: &[Atom]) -> bool {
     for term in one.terms.iter() {
         if let Term::Variable(name) = term {
@@ -116,7 +116,7 @@ fn share_two(one: &Atom, other: &Atom) -> bool {
     false
 }
 
-// Whether the atom shares a variable with one of those that are linked.
+// Whether the atom shares a variable with a linked one.
 fn is_reached(atoms: &[Atom], linked: &[bool], atom: &Atom) -> bool {
     for (place, other) in atoms.iter().enumerate() {
         if linked.get(place).copied() == Some(true) && share_two(atom, other) {
@@ -126,7 +126,7 @@ fn is_reached(atoms: &[Atom], linked: &[bool], atom: &Atom) -> bool {
     false
 }
 
-// For each atom of the right side whether it shares a variable with the left one, directly or through others, or has none.
+// For each atom of the right side: whether it has no variable, or shares one with the left side, directly or through other atoms.
 fn linked_of(alloc: Global, rule: &Rule) -> Result<Vec<bool>, Memory> {
     let right = rule.right.as_slice();
     let mut linked = directly_linked(alloc, rule)?;
@@ -136,7 +136,7 @@ fn linked_of(alloc: Global, rule: &Rule) -> Result<Vec<bool>, Memory> {
     Ok(linked)
 }
 
-// For each atom of the right side whether it shares a variable with the left one, or has none.
+// For each atom of the right side: whether it has no variable, or shares one with the left side directly.
 fn directly_linked(alloc: Global, rule: &Rule) -> Result<Vec<bool>, Memory> {
     let mut linked = Vec::new(alloc);
     for atom in rule.right.iter() {
@@ -145,7 +145,7 @@ fn directly_linked(alloc: Global, rule: &Rule) -> Result<Vec<bool>, Memory> {
     Ok(linked)
 }
 
-// Those that are linked, and those that share a variable with one of them.
+// The linked atoms, with those that share a variable with one of them.
 fn further_linked(alloc: Global, atoms: &[Atom], linked: &[bool]) -> Result<Vec<bool>, Memory> {
     let mut further = Vec::new(alloc);
     for (place, atom) in atoms.iter().enumerate() {

@@ -1,4 +1,4 @@
-//! Which mappings can be declared.
+//! The checks that a mapping can be declared.
 
 use crate::cycles::cycle_words;
 use crate::dropping::is_in_force;
@@ -11,13 +11,13 @@ use ws_report::refuse;
 use ws_space::{Space, copy_rule};
 use ws_written::{Atom, Rule, Term};
 
-/// The most mappings that are not gone.
+/// The greatest number of mappings that are not gone.
 const MAPPINGS: usize = 40;
 
-/// The most variables that stand on both sides.
+/// The greatest number of variables that are on both sides.
 const SHARED: usize = 8;
 
-/// The mapping with a variable of its own for each `_`.
+/// The mapping with a separate variable for each `_`.
 pub(crate) fn apart(alloc: Global, rule: &Rule) -> Result<Rule, Memory> {
     let mut copy = copy_rule(alloc, rule)?;
     set_apart(alloc, &mut copy)?;
@@ -59,7 +59,7 @@ fn same_atoms(ones: &[Atom], others: &[Atom]) -> bool {
     true
 }
 
-/// The name of the relation of this number; empty if there is none.
+/// The name of the relation with this number; empty if there is none.
 pub(crate) fn relation_name(space: &Space, relation: u32) -> &str {
     match space.relations.get(relation as usize) {
         Some(declared) => declared.name.as_str(),
@@ -67,7 +67,7 @@ pub(crate) fn relation_name(space: &Space, relation: u32) -> &str {
     }
 }
 
-/// Whether the mapping of this number is gone.
+/// Whether the mapping with this number is gone.
 pub(crate) fn is_gone(space: &Space, place: usize) -> bool {
     match u16::try_from(place) {
         Ok(number) => space.state.is_gone(number),
@@ -75,7 +75,7 @@ pub(crate) fn is_gone(space: &Space, place: usize) -> bool {
     }
 }
 
-/// Whether this very mapping is declared, and not gone.
+/// Whether this very mapping is declared already and is not gone.
 pub(crate) fn is_declared(space: &Space, rule: &Rule) -> bool {
     for (place, other) in space.rules.iter().enumerate() {
         if other.name.as_str() == rule.name.as_str() && !is_gone(space, place) {
@@ -86,7 +86,7 @@ pub(crate) fn is_declared(space: &Space, rule: &Rule) -> bool {
     false
 }
 
-/// Refuses a mapping, each `_` of which is a variable of its own, that cannot be declared.
+/// Refuses a mapping that cannot be declared. In it, each `_` is a variable of its own.
 pub(crate) fn check_mapping(alloc: Global, space: &Space, rule: &Rule) -> Result<(), Refusal> {
     check_name(alloc, space, rule.name.as_str())?;
     if MAPPINGS <= count_others(space, rule.name.as_str()) {
@@ -106,7 +106,7 @@ pub(crate) fn check_mapping(alloc: Global, space: &Space, rule: &Rule) -> Result
     Ok(())
 }
 
-// The name is free, or that of a proposed mapping of which no update speaks.
+// Refuses a name unless it is free, or the name of a proposed mapping that no update mentions.
 fn check_name(alloc: Global, space: &Space, name: &str) -> Result<(), Refusal> {
     let Some(mapping) = space.mapping(name) else {
         return Ok(());
@@ -127,7 +127,7 @@ fn check_name(alloc: Global, space: &Space, name: &str) -> Result<(), Refusal> {
     Ok(())
 }
 
-// How many mappings of other names are not gone.
+// The number of mappings with other names that are not gone.
 fn count_others(space: &Space, name: &str) -> usize {
     let mut count = 0usize;
     for (place, rule) in space.rules.iter().enumerate() {
@@ -138,7 +138,7 @@ fn count_others(space: &Space, name: &str) -> usize {
     count
 }
 
-/// Whether the variable of this name stands in the atom.
+/// Whether the atom has the variable with this name.
 pub(crate) fn stands_in(atom: &Atom, name: &str) -> bool {
     for term in atom.terms.iter() {
         if let Term::Variable(variable) = term {
@@ -150,7 +150,7 @@ pub(crate) fn stands_in(atom: &Atom, name: &str) -> bool {
     false
 }
 
-/// Whether the variable of this name stands in one of the atoms.
+/// Whether one of the atoms has the variable with this name.
 pub(crate) fn stands_among(atoms: &[Atom], name: &str) -> bool {
     for atom in atoms {
         if stands_in(atom, name) {
@@ -160,7 +160,7 @@ pub(crate) fn stands_among(atoms: &[Atom], name: &str) -> bool {
     false
 }
 
-// How many variables of the atom stand on the right side, and in no atom before it.
+// The number of the atom's variables that are on the right side too and did not occur before.
 fn count_new_shared(rule: &Rule, place: usize, atom: &Atom) -> usize {
     let mut count = 0usize;
     for (column, term) in atom.terms.iter().enumerate() {
@@ -175,7 +175,7 @@ fn count_new_shared(rule: &Rule, place: usize, atom: &Atom) -> usize {
     count
 }
 
-// Whether the variable of this name stands in one of so many first atoms of the left side.
+// Whether one of the first `count` atoms of the left side has the variable with this name.
 fn stood_above(rule: &Rule, count: usize, name: &str) -> bool {
     for atom in rule.left.iter().take(count) {
         if stands_in(atom, name) {
@@ -185,7 +185,7 @@ fn stood_above(rule: &Rule, count: usize, name: &str) -> bool {
     false
 }
 
-// Whether the term stands in one of so many first columns of the atom.
+// Whether one of the first `count` columns of the atom has the term.
 fn stood_before(atom: &Atom, count: usize, term: &Term) -> bool {
     for other in atom.terms.iter().take(count) {
         if same_term(other, term) {
@@ -195,7 +195,7 @@ fn stood_before(atom: &Atom, count: usize, term: &Term) -> bool {
     false
 }
 
-// How many variables stand on both sides.
+// The number of variables that are on both sides.
 fn count_shared(rule: &Rule) -> usize {
     let mut count = 0usize;
     for (place, atom) in rule.left.iter().enumerate() {

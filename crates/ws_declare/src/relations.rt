@@ -10,11 +10,11 @@ use ws_report::{Done, Report, recorded, refuse, told_line};
 use ws_space::Space;
 use ws_written::{Line, Relation};
 
-/// The most relations of a workspace.
+/// The greatest number of relations in a workspace.
 const RELATIONS: usize = 100;
 
-/// Declares a relation, anew if its columns stay or nothing speaks of it. It is refused if something does, if another name
-/// differs by capitals alone, or if there are too many.
+/// Declares a relation, or declares one again if its columns stay or nothing mentions it. It is refused if something mentions it,
+/// if another name differs only in capitals, or if there are too many relations.
 pub fn declare_relation(
     alloc: Global,
     space: &mut Space,
@@ -30,7 +30,7 @@ pub fn declare_relation(
     recorded(alloc, report, line)
 }
 
-// Whether the relation is not declared so yet. It is refused if it cannot be declared.
+// Whether the relation is still to be declared in this form. It is refused if that is not possible.
 fn check_relation(alloc: Global, space: &Space, relation: &Relation) -> Result<bool, Refusal> {
     let Some(place) = place_of(space.relations.as_slice(), relation.name.as_str()) else {
         check_new(alloc, space, relation.name.as_str())?;
@@ -74,7 +74,7 @@ fn has_same_columns(one: &Relation, other: &Relation) -> bool {
     true
 }
 
-// Whether the relations, which have the same columns, have the same key.
+// Whether the two relations, which have the same columns, have the same key.
 fn has_same_key(one: &Relation, other: &Relation) -> bool {
     for (place, column) in one.columns.iter().enumerate() {
         match other.columns.get(place) {
@@ -94,7 +94,7 @@ fn is_declared(space: &Space, place: usize, relation: &Relation) -> bool {
     }
 }
 
-// The relation that is there can have the columns of this one.
+// Refuses new columns for a declared relation that something mentions.
 fn check_unspoken(
     alloc: Global,
     space: &Space,
@@ -114,7 +114,7 @@ fn check_unspoken(
     refuse(alloc, words.as_str(), hint)
 }
 
-// A relation of this name can be added.
+// Refuses a new relation if one has its name, ignoring capitals, or if there are too many.
 fn check_new(alloc: Global, space: &Space, name: &str) -> Result<(), Refusal> {
     let lower = name.to_lowercase(alloc)?;
     for other in space.relations.iter() {
@@ -128,7 +128,7 @@ fn check_new(alloc: Global, space: &Space, name: &str) -> Result<(), Refusal> {
     Ok(())
 }
 
-// The relation of this name is there, and a new one differs from it by capitals alone.
+// Refuses a new relation whose name differs from this one only in capitals.
 fn refuse_twin(alloc: Global, name: &str) -> Result<(), Refusal> {
     let words = format!(in alloc;
         "there is a relation {name}; names differ by more than capitals"

@@ -1,4 +1,4 @@
-//! Violations of a mapping, and which of them are still there.
+//! The violations of a mapping, and which of them are still there.
 
 use base_types::{Binding, Memory, TryCopy, Tuple, Value, ValueList};
 use chase_match::{extends, first_match};
@@ -8,7 +8,7 @@ use ws_lines::Deed;
 use ws_run::shared_variables;
 use ws_space::{Space, unknown_of};
 
-// A repair is a tuple here: the number of its mapping, and by names the values of the variables on both sides.
+// Here a repair is a tuple: its relation is the number of the mapping, its values are by names, for the variables on both sides.
 
 /// The repairs of a mapping that wait.
 pub(crate) fn waiting_repairs(
@@ -30,7 +30,7 @@ pub(crate) fn waiting_repairs(
     Ok(repairs)
 }
 
-/// The repairs of the violations of a mapping, but for those that wait, in order.
+/// The repairs that the violations of a mapping need, without the repairs that wait, in order.
 pub(crate) fn open_repairs(
     alloc: Global,
     space: &Space,
@@ -48,7 +48,7 @@ pub(crate) fn open_repairs(
     Ok(repairs)
 }
 
-// The repair of the violation of a mapping with these values.
+// The repair for the violation of a mapping with these values.
 fn repair_of(
     alloc: Global,
     space: &Space,
@@ -62,7 +62,7 @@ fn repair_of(
     Tuple::new(alloc, mapping, values)
 }
 
-// What the value by its name is within; None if it is not there.
+// The value within of a value by its name; None if it is not there.
 fn within(alloc: Global, space: &Space, value: &Value) -> Result<Option<Value>, Memory> {
     match value {
         Value::Null(name) => Ok(space.within_unknown(unknown_of(*name))),
@@ -70,7 +70,7 @@ fn within(alloc: Global, space: &Space, value: &Value) -> Result<Option<Value>, 
     }
 }
 
-/// Whether the violation that a repair is for is still there.
+/// Whether the violation is still there that the repair is for.
 pub(crate) fn is_violated(alloc: Global, space: &Space, repair: &Tuple) -> Result<bool, Memory> {
     let Some(mapping) = space.state.mappings().get(usize::from(repair.relation)) else {
         return Ok(false);
@@ -86,7 +86,7 @@ pub(crate) fn is_violated(alloc: Global, space: &Space, repair: &Tuple) -> Resul
     Ok(!extends(alloc, &binding, &mapping.right, facts)?)
 }
 
-// The variables bound to the values of the repair; None if one of them is not there.
+// The variables bound to the values of the repair; None if one of the values is not there.
 fn binding_of(
     alloc: Global,
     space: &Space,

@@ -1,4 +1,4 @@
-//! What speaks of a relation or of a mapping.
+//! What mentions a relation or a mapping.
 
 use base_types::Facts;
 use ws_lines::Deed;
@@ -35,7 +35,7 @@ fn updates_speak(updates: &[Held], relation: u32) -> bool {
     false
 }
 
-/// Whether a tuple, an update or a mapping speaks of the relation of this number.
+/// Whether a tuple, an update or a mapping mentions the relation with this number.
 pub(crate) fn is_spoken_of(space: &Space, relation: usize) -> bool {
     let Ok(number) = u16::try_from(relation) else {
         return false;
@@ -55,7 +55,7 @@ fn names_mapping(deed: &Deed, mapping: u16) -> bool {
     }
 }
 
-/// The least number of an update, undone or not, that speaks of the mapping.
+/// The least number of an update, undone or not, that mentions the mapping.
 pub(crate) fn speaker_of(space: &Space, mapping: u16) -> Option<u32> {
     let mut least = None;
     for held in space.state.held() {

@@ -1,4 +1,4 @@
-//! The base of a dump: what stood before its updates.
+//! The base of a dump: the tuples before its updates.
 
 use base_types::{Memory, Null, Tuple, Value};
 use std::alloc::Global;
@@ -6,7 +6,7 @@ use std::collections::{BTreeMap, BTreeSet};
 use ws_run::{Step, WANT};
 use ws_space::Space;
 
-/// The tuples that were there before the updates that stand from this place on, within.
+/// The tuples, within, before the updates that stand from place `cut` on.
 pub(crate) fn tuples_before(
     alloc: Global,
     space: &Space,
@@ -28,7 +28,7 @@ fn tuples_now(alloc: Global, space: &Space) -> Result<BTreeSet<Tuple>, Memory> {
     Ok(tuples)
 }
 
-// Takes back what the steps did, the last one first.
+// Takes back what the steps did, the last step first.
 fn take_all_back(tuples: &mut BTreeSet<Tuple>, steps: &[Step]) -> Result<(), Memory> {
     for step in steps.iter().rev() {
         take_back(tuples, step)?;
@@ -47,7 +47,7 @@ fn take_back(tuples: &mut BTreeSet<Tuple>, step: &Step) -> Result<(), Memory> {
     Ok(())
 }
 
-/// The nulls of the tuples, each with its place among them, from 1.
+/// The nulls of the tuples, each with its place, from 1.
 pub(crate) fn places_of(
     alloc: Global,
     tuples: &BTreeSet<Tuple>,

@@ -1,4 +1,4 @@
-//! The comments of a dump: what its base has in it, the names of its nulls, and what waits.
+//! The comments of a dump: what its base contains, the names of its nulls, and the updates that wait.
 
 use crate::renaming::Renaming;
 use base_types::{Memory, Null};
@@ -7,7 +7,7 @@ use ws_print::{Lines, Text, add_unknown};
 use ws_space::{Space, unknown_of};
 use ws_written::STEPS;
 
-/// Adds the comments of a dump whose base has so many of the updates that stand.
+/// Adds the comments of a dump; its base contains the first `cut` of the updates that stand.
 pub(crate) fn add_comments(
     alloc: Global,
     lines: &mut Lines,
@@ -26,7 +26,7 @@ pub(crate) fn add_comments(
     Ok(())
 }
 
-// How many updates the base has in it.
+// Adds the number of updates that the base contains.
 fn add_base(alloc: Global, lines: &mut Lines, space: &Space, cut: usize) -> Result<(), AllocError> {
     let Some(last) = cut.checked_sub(1) else {
         return Ok(());
@@ -59,7 +59,7 @@ fn name_line(
     line.done()
 }
 
-// The nulls that the updates of the dump draw.
+// Adds the names of the nulls that the updates of the dump draw.
 fn add_drawn(alloc: Global, lines: &mut Lines, space: &Space, renaming: &Renaming, cut: usize) {
     for standing in space.state.order().as_slice().iter().skip(cut) {
         for op in standing.ops.as_slice() {

@@ -1,4 +1,4 @@
-//! Where the updates of a dump begin.
+//! The place where the updates of a dump begin.
 
 use base_types::{Memory, Operation};
 use std::alloc::Global;
@@ -7,7 +7,7 @@ use ws_lines::{Deed, Update};
 use ws_space::Space;
 use ws_state::Standing;
 
-// The most that a session takes: updates, mappings that are added, answers, curators, and mappings that are repaired.
+// The limits of a session: updates, added mappings, answers, curators, and repaired mappings.
 const OPS: usize = 1000;
 
 const ADDED: usize = 16;
@@ -18,7 +18,7 @@ const CURATORS: usize = 64;
 
 const REPAIRED: usize = 20;
 
-// What the updates of a dump come to so far.
+// The size of a dump's updates so far.
 #[derive(Drop)]
 struct Weight {
     ops: usize,
@@ -60,7 +60,7 @@ impl Weight {
     }
 }
 
-// How many mappings it put in force.
+// The number of mappings that the update put in force.
 fn added_by(standing: &Standing) -> usize {
     let mut added = 0usize;
     for op in standing.ops.as_slice() {
@@ -71,7 +71,7 @@ fn added_by(standing: &Standing) -> usize {
     added
 }
 
-/// How many of the updates that stand, from the first on, are in the base of the dump.
+/// The number of updates that the base of the dump contains: the first of the updates that stand.
 pub(crate) fn cut_of(alloc: Global, space: &Space) -> Result<usize, Memory> {
     let order = space.state.order().as_slice();
     let mut weight = Weight::new(alloc);

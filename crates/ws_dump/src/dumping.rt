@@ -1,4 +1,4 @@
-//! A dump, put together.
+//! Putting a dump together.
 
 use crate::base::{places_of, tuples_before};
 use crate::comments::add_comments;
@@ -23,7 +23,7 @@ pub fn dump(alloc: Global, space: &Space) -> Result<Vec<String>, Memory> {
     dump_from(alloc, space, &tuples, cut)
 }
 
-// The lines of the dump over these tuples as its base.
+// The lines of the dump with these tuples as its base.
 fn dump_from(
     alloc: Global,
     space: &Space,
@@ -42,7 +42,7 @@ fn dump_from(
     lines_of(alloc, space, &renaming, text.as_str(), cut)
 }
 
-// The lines of the printed form, the comments after the first one.
+// The lines of the printed form, with the comments after the first one.
 fn lines_of(
     alloc: Global,
     space: &Space,

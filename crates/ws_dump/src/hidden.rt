@@ -1,4 +1,4 @@
-//! The relations of a dump: those of the workspace, and the hidden ones that its updates use.
+//! The relations of a dump: the relations of the workspace, and the hidden ones that its updates use.
 
 use base_types::{Memory, Name, Operation, TryCopy, Tuple};
 use lang_schema::{Schema, SchemaRefusal};
@@ -9,15 +9,15 @@ use ws_run::{FIX, UNKNOWN, WANT, shared_variables};
 use ws_space::Space;
 use ws_state::Standing;
 
-/// The numbers that hidden relations have in a dump: that of `_want`, which `_unknown` follows, and that of `_fix_m` for each
-/// mapping that is repaired, by its number.
+/// The numbers that hidden relations have in a dump: that of `_want` (`_unknown` has the next one), and for each mapping that is
+/// repaired, that of its `_fix_m`.
 #[derive(Drop)]
 pub(crate) struct Hidden {
     pub want: Option<u16>,
     pub fixes: Vec<Fix>,
 }
 
-/// The relation of the repairs of a mapping.
+/// The relation for the repairs of a mapping.
 #[derive(Clone, Copy)]
 pub(crate) struct Fix {
     pub mapping: u16,
@@ -25,7 +25,7 @@ pub(crate) struct Fix {
 }
 
 impl Hidden {
-    /// The number of a relation in a dump; the repairs are those of the mapping.
+    /// The number of a relation in a dump. `repaired` is the mapping whose repairs the hidden relation holds.
     pub fn number_of(&self, relation: u16, repaired: Option<u16>) -> u16 {
         if relation == FIX {
             return self.fix_of(repaired).unwrap_or(relation);
@@ -48,7 +48,7 @@ impl Hidden {
     }
 }
 
-/// The mapping that the update repairs which is held at this place, if it is a repair.
+/// The mapping that the update held at this place repairs; None if the update is no repair.
 pub(crate) fn repaired_by(space: &Space, held: usize) -> Option<u16> {
     match &space.state.held().get(held)?.update.deed {
         Deed::Fix(mapping, _) => Some(*mapping),
@@ -78,8 +78,8 @@ fn is_hidden(tuple: &Tuple) -> bool {
     tuple.relation == WANT || tuple.relation == UNKNOWN
 }
 
-/// The relations of a dump, those of the workspace first, and then the hidden ones that the updates use which stand from this
-/// place on.
+/// The relations of a dump: first the relations of the workspace, then the hidden ones that the updates which stand from place
+/// `cut` on use.
 pub(crate) fn relations_of(
     alloc: Global,
     space: &Space,
@@ -112,7 +112,7 @@ fn add_tables(alloc: Global, schema: &mut Schema, space: &Space) -> Result<(), M
     Ok(())
 }
 
-// Adds `_want` and `_unknown`, if an update draws new unknowns; the number of the first.
+// Adds `_want` and `_unknown` if an update draws new unknowns. Returns the number of `_want`.
 fn add_want(
     alloc: Global,
     schema: &mut Schema,
@@ -153,7 +153,7 @@ fn add_fixes(
     Ok(fixes)
 }
 
-// The mappings that are repaired from this place on.
+// The mappings that are repaired from place `cut` on.
 fn repaired_from(alloc: Global, space: &Space, cut: usize) -> Result<BTreeSet<u16>, Memory> {
     let mut repaired = BTreeSet::new(alloc);
     for standing in space.state.order().as_slice().iter().skip(cut) {
@@ -164,7 +164,7 @@ fn repaired_from(alloc: Global, space: &Space, cut: usize) -> Result<BTreeSet<u1
     Ok(repaired)
 }
 
-// `_fix_m`, with a column for each variable on both sides of the mapping, and one if there is none.
+// Declares `_fix_m`, with a column for each variable on both sides of the mapping, or one column if there is none.
 fn declare_fix(
     alloc: Global,
     schema: &mut Schema,
@@ -192,7 +192,7 @@ fn name_of(alloc: Global, text: &str) -> Result<Name, Memory> {
     Ok(Name::from_vec(Vec::from_slice(alloc, text.as_bytes())?))
 }
 
-// Adds a relation; one that a session has no room for is left out.
+// Adds a relation, unless a session has no room for it.
 fn declare(schema: &mut Schema, name: Name, columns: u16) -> Result<(), Memory> {
     match schema.relation(name, columns) {
         Err(SchemaRefusal::Memory) => Err(Memory),

@@ -1,7 +1,7 @@
-//! `dump`: what stands in a workspace, as a session that `youtopia serial` takes.
+//! `dump`: what stands in a workspace, as a session for `youtopia serial`.
 //!
-//! The last updates that stand become updates of the session, one for each of their ops; what stood before them is its base.
-//! Comments after the first line say what the session cannot.
+//! The last updates that stand become updates of the session, one for each op; what stood before them is its base. Comments after
+//! the first line say what the session cannot say.
 #![tactic(auto)]
 
 mod base;

@@ -6,7 +6,7 @@ use std::alloc::Global;
 use ws_run::{drawing_mapping, fixing_mapping};
 use ws_space::Space;
 
-/// The mappings in force before the updates that stand from this place on, and then the hidden ones.
+/// The mappings in force before the updates that stand from place `cut` on, and then the hidden ones.
 pub(crate) fn first_mappings(
     alloc: Global,
     space: &Space,
@@ -28,7 +28,7 @@ pub(crate) fn first_mappings(
     Ok(mappings)
 }
 
-/// Adds a mapping of the workspace that is in force since this update of the dump.
+/// Adds a mapping of the workspace, in force since update `since` of the dump.
 pub(crate) fn add_mapping(
     alloc: Global,
     mappings: &mut MappingList,
@@ -44,7 +44,7 @@ pub(crate) fn add_mapping(
     Ok(())
 }
 
-// How many mappings the updates put in force that stand from this place on.
+// The number of mappings that the updates which stand from place `cut` on put in force.
 fn enacted_from(space: &Space, cut: usize) -> usize {
     let mut count = 0usize;
     for standing in space.state.order().as_slice().iter().skip(cut) {
@@ -71,7 +71,7 @@ fn add_fix(
     Ok(())
 }
 
-// A hidden mapping over the numbers that hidden relations have in a dump.
+// A hidden mapping with the numbers that hidden relations have in a dump.
 fn moved(
     alloc: Global,
     mapping: Mapping,

@@ -1,5 +1,5 @@
-//! Tuples of the workspace as a dump has them: nulls of the base by their places there, others by the updates of the dump that
-//! drew them.
+//! The workspace's tuples in the form of a dump: nulls of the base are named by their places there, others by the updates of the
+//! dump that drew them.
 
 use crate::hidden::Hidden;
 use base_types::{
@@ -8,7 +8,7 @@ use base_types::{
 use std::alloc::Global;
 use std::collections::BTreeMap;
 
-/// How tuples within are called in a dump.
+/// The names that tuples within have in a dump.
 #[derive(Drop)]
 pub(crate) struct Renaming {
     pub alloc: Global,
@@ -20,7 +20,7 @@ pub(crate) struct Renaming {
 }
 
 impl Renaming {
-    /// A null.
+    /// The null in the dump.
     pub fn null(&self, null: Null) -> Null {
         if self.first < null.update {
             return Null {
@@ -39,7 +39,7 @@ impl Renaming {
         }
     }
 
-    /// A value.
+    /// The value in the dump.
     pub fn value(&self, value: &Value) -> Result<Value, Memory> {
         match value {
             Value::Null(null) => Ok(Value::Null(self.null(*null))),
@@ -47,7 +47,7 @@ impl Renaming {
         }
     }
 
-    /// A tuple; a repair is one of this mapping.
+    /// The tuple in the dump. If it is a repair, it is one of the mapping `repaired`.
     pub fn tuple(&self, tuple: &Tuple, repaired: Option<u16>) -> Result<Tuple, Memory> {
         let mut values = ValueList::new(self.alloc);
         for value in tuple.values.as_slice() {
@@ -65,7 +65,7 @@ impl Renaming {
         Ok(all)
     }
 
-    /// The choices that an op took.
+    /// The choices that an op took, in the dump.
     pub fn choices(&self, choices: &[Choice], repaired: Option<u16>) -> Result<ChoiceList, Memory> {
         let mut all = ChoiceList::new(self.alloc);
         for choice in choices {
@@ -82,7 +82,7 @@ impl Renaming {
         }
     }
 
-    /// An operation, of which a mapping that it puts in force has this number in the dump.
+    /// The operation in the dump; `mapping` is the number there of a mapping that it puts in force.
     pub fn operation(
         &self,
         operation: &Operation,

@@ -1,4 +1,4 @@
-//! The updates of a dump: one for each op of those that stand.
+//! The updates of a dump: one for each op of the updates that stand.
 
 use crate::hidden::repaired_by;
 use crate::mappings::add_mapping;
@@ -10,7 +10,7 @@ use ws_run::Op;
 use ws_space::Space;
 use ws_state::Standing;
 
-/// The updates of a dump, and its mappings, to which they add those that they put in force.
+/// The updates of a dump, and its mappings, to which the updates add the mappings that they put in force.
 #[derive(Drop)]
 pub(crate) struct Updates {
     pub mappings: MappingList,
@@ -18,7 +18,7 @@ pub(crate) struct Updates {
 }
 
 impl Updates {
-    /// Adds the updates that stand from this place on.
+    /// Adds the updates that stand from place `cut` on.
     pub fn add_all(
         &mut self,
         alloc: Global,
@@ -59,7 +59,7 @@ impl Updates {
         Ok(())
     }
 
-    // What the op does; a mapping that it puts in force is added.
+    // The operation of the op in the dump. A mapping that it puts in force is added.
     fn operation(
         &mut self,
         alloc: Global,
@@ -77,7 +77,7 @@ impl Updates {
     }
 }
 
-// `uN`, and from the second on `uN_J`.
+// `uN`, or `uN_J` from the second op on.
 fn label_of(alloc: Global, number: u32, place: usize) -> Result<Name, Memory> {
     let label = if place == 0 {
         format!(in alloc; "u{number}")?

@@ -59,7 +59,7 @@ impl Ground {
         Ok(())
     }
 
-    /// Makes the writes in turn, and adds to the trail those that change something. After a refusal, some of them may be made.
+    /// Makes the writes in turn, and adds each that changes something to the trail. After a refusal, some of them may be made.
     pub fn make(&mut self, writes: WriteList) -> Result<(), Memory>
         ensures grown { HasGrown self.old self.new }
     {
@@ -110,7 +110,7 @@ fn undo(facts: &mut IndexedFacts, write: Write) -> Result<(), Memory>
     Ok(())
 }
 
-// Makes the writes in turn, and adds to the trail those that change something.
+// Makes the writes in turn, and adds each that changes something to the trail.
 #[tactic(auto, using(crate::proofs::Trailing::none_made, crate::proofs::Trailing::more_made))]
 fn make_all(
     facts: &mut IndexedFacts,

@@ -1,4 +1,4 @@
-//! Hints about tuples that are inserted by one command.
+//! Hints about tuples that one command inserts.
 
 use crate::kinds::{Kinds, add_kinds, has_digits, kinds_of};
 use crate::twins::{add_key, add_twins, twins_of};
@@ -11,7 +11,7 @@ use ws_report::Note;
 use ws_space::{Space, copy_value};
 use ws_written::{Fact, NewFact, NewValue};
 
-/// What hints look at: of each relation its tuples with unknowns, and the kinds of its values, each once.
+/// What the hints need, computed once for each relation: its tuples with unknowns, and the kinds of its values.
 #[derive(Drop)]
 pub struct Hints {
     alloc: Global,
@@ -20,7 +20,7 @@ pub struct Hints {
 }
 
 impl Hints {
-    /// Nothing was looked at yet.
+    /// Hints before any relation was looked at.
     pub fn new(alloc: Global) -> Hints {
         Hints {
             alloc,
@@ -29,7 +29,7 @@ impl Hints {
         }
     }
 
-    /// Adds the hints about a tuple that the update of this number inserts. A tuple with a new unknown has none.
+    /// Adds the hints about a tuple that the update with this number inserts. A tuple with a new unknown gets none.
     pub fn add(
         &mut self,
         space: &Space,
@@ -52,7 +52,7 @@ impl Hints {
         Ok(())
     }
 
-    // Adds the hints about tuples that may be the same, or have the same key.
+    // Adds the hints about tuples that may be the same, or that have the same key.
     fn add_same(
         &mut self,
         space: &Space,
@@ -72,7 +72,7 @@ impl Hints {
         add_key(alloc, space, &twins, tuple, notes)
     }
 
-    // The columns of a relation with its tuples that have unknowns; none if they were not looked at.
+    // The columns of a relation with its tuples that have unknowns; empty if the relation was not looked at.
     fn looked_at(&self, relation: u16) -> &[VagueColumn] {
         match self.vague.get(&relation) {
             Some(columns) => columns.as_slice(),
@@ -102,7 +102,7 @@ impl Hints {
     }
 }
 
-/// The tuple, if it has no new unknown.
+/// The tuple; None if it has a new unknown.
 pub fn known_fact(alloc: Global, fact: &NewFact) -> Result<Option<Fact>, Memory> {
     let mut values = Vec::new(alloc);
     for value in fact.values.iter() {

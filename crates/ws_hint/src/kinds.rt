@@ -6,7 +6,7 @@ use std::alloc::Global;
 use ws_report::{Note, named_text};
 use ws_space::Space;
 
-/// How many numbers and texts a column has.
+/// The counts of numbers and of texts in a column.
 #[derive(Clone, Copy)]
 pub(crate) struct Kinds {
     numbers: usize,
@@ -22,13 +22,13 @@ impl Kinds {
         }
     }
 
-    // Whether there are numbers, and so many texts beside.
+    // Whether the column has numbers, and exactly `texts` texts.
     fn are_numbers_with(&self, texts: usize) -> bool {
         0 < self.numbers && self.texts == texts
     }
 }
 
-/// What each column of a relation has.
+/// The counts for each column of a relation.
 pub(crate) fn kinds_of(alloc: Global, space: &Space, relation: u16) -> Result<Vec<Kinds>, Memory> {
     let mut kinds = Vec::new(alloc);
     if let Some(declared) = space.relations.get(usize::from(relation)) {
@@ -57,7 +57,7 @@ fn count_all(kinds: &mut [Kinds], tuple: &Tuple) {
     }
 }
 
-// Whether it is `-` or nothing, and then digits.
+// Whether the bytes are digits, with `-` in front or not.
 fn looks_like_number(bytes: &[u8]) -> bool {
     let digits = bytes.strip_prefix(b"-").unwrap_or(bytes);
     if digits.is_empty() {
@@ -79,7 +79,7 @@ fn is_digits(value: &Value) -> bool {
     }
 }
 
-/// Whether a value of the tuple is a text that looks like a number.
+/// Whether some value of the tuple is a text that looks like a number.
 pub(crate) fn has_digits(tuple: &Tuple) -> bool {
     for value in tuple.values.as_slice() {
         if is_digits(value) {

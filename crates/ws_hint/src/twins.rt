@@ -1,4 +1,4 @@
-//! Tuples that may be the same as one that is inserted, and tuples of the same key.
+//! Tuples that may be the same as an inserted one, and tuples with the same key.
 
 use crate::vague::VagueColumn;
 use base_types::{Column, Memory, Null, Tuple, Value};
@@ -11,10 +11,10 @@ use ws_question::inner_text;
 use ws_report::Note;
 use ws_space::{Space, is_unknown, unknown_of};
 
-/// The most twins that are told.
+/// The greatest number of twins that get a hint.
 const TWINS: usize = 3;
 
-/// The tuples with unknowns that share a value with this one, and that it is more specific than.
+/// The twins of the tuple: tuples with unknowns that share a value with it, and that become it if their unknowns are filled.
 pub(crate) fn twins_of(
     alloc: Global,
     columns: &[VagueColumn],
@@ -32,7 +32,7 @@ pub(crate) fn twins_of(
     Ok(twins)
 }
 
-// Adds the tuples with this value in the column that the tuple is more specific than.
+// Adds the twins that have this value in the column.
 fn add_vague(
     twins: &mut BTreeSet<Tuple>,
     column: &VagueColumn,
@@ -57,7 +57,7 @@ fn filling(alloc: Global, space: &Space, null: Null, value: &Value) -> Result<St
     Ok(text.done()?)
 }
 
-// The commands that make the twin the tuple, one for each of its unknowns.
+// The commands that turn the twin into the tuple, one for each of its unknowns.
 fn fillings(
     alloc: Global,
     space: &Space,
@@ -78,7 +78,7 @@ fn fillings(
     Ok(commands)
 }
 
-// Whether the value at a place of the tuple stands at none before it.
+// Whether no earlier place of the tuple has the same value.
 fn is_first(tuple: &Tuple, place: usize, value: &Value) -> bool {
     for other in tuple.values.as_slice().iter().take(place) {
         if other == value {
@@ -106,7 +106,7 @@ pub(crate) fn add_twins(
     Ok(())
 }
 
-// The places of the columns of the key.
+// The places of the key's columns.
 fn key_places(alloc: Global, space: &Space, relation: u32) -> Result<Vec<usize>, Memory> {
     let mut places = Vec::new(alloc);
     if let Some(declared) = space.relations.get(relation as usize) {
@@ -128,7 +128,7 @@ fn has_same_key(one: &Tuple, other: &Tuple, key: &[usize]) -> bool {
     true
 }
 
-// The first other tuple of the same key that is no twin.
+// The first other tuple with the same key that is no twin.
 fn same_key<'a>(
     space: &'a Space,
     twins: &BTreeSet<Tuple>,
@@ -171,7 +171,7 @@ fn column_names(
     Ok(names.done()?)
 }
 
-/// Adds a hint if another tuple, which is no twin, has the same key.
+/// Adds a hint if another tuple that is no twin has the same key.
 pub(crate) fn add_key(
     alloc: Global,
     space: &Space,

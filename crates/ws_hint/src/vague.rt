@@ -1,4 +1,4 @@
-//! Tuples with unknowns, by what they have in their columns.
+//! Tuples with unknowns, by the values in their columns.
 
 use base_types::{Memory, TryCopy, Tuple, Value};
 use chase_match::Walk;
@@ -6,7 +6,7 @@ use std::alloc::Global;
 use std::collections::BTreeMap;
 use ws_space::{Space, has_unknown, is_unknown};
 
-/// A column: by each value the tuples with unknowns that have it there, in order.
+/// A column: for each value, the tuples with unknowns that have it there, in order.
 #[derive(Drop)]
 pub(crate) struct VagueColumn {
     tuples: BTreeMap<Value, Vec<Tuple>>,
@@ -45,7 +45,7 @@ fn add_tuple(alloc: Global, columns: &mut Vec<VagueColumn>, tuple: &Tuple) -> Re
     Ok(())
 }
 
-/// The columns of a relation, with its tuples that have unknowns; none if there is no unknown at all.
+/// The columns of a relation with its tuples that have unknowns; empty if there is no unknown at all.
 pub(crate) fn vague_of(
     alloc: Global,
     space: &Space,

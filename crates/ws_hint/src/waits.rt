@@ -14,7 +14,7 @@ fn is_spelled(spelled: &Spelled, value: Option<&Value>) -> bool {
     }
 }
 
-// Whether the line spells this tuple, by names.
+// Whether the line's tuple is this tuple by names.
 fn spells(spelled: &SpelledTuple, tuple: &Tuple) -> bool {
     if spelled.relation != tuple.relation || spelled.values.len() != tuple.values.len() {
         return false;
@@ -77,7 +77,7 @@ pub(crate) fn add_waits(
     Ok(())
 }
 
-// That another update waits with the tuple.
+// The hint that another update waits with the tuple.
 fn waiting_note(alloc: Global, space: &Space, fact: &Fact, other: u32) -> Result<Note, Memory> {
     let curator = space.curator_of(other);
     let text = said_text(alloc, space, fact)?;

@@ -1,7 +1,7 @@
 //! The lines of a workspace's log, as plain types: updates, answers, what is taken back, and what is declared.
 //!
 //! Lines give unknowns by their names. The name `?12.1` is a `Null` of update 12, attempt 0 and place 1, so that tuples,
-//! values and answers by names have the same types as those of the chase.
+//! values and answers by names have the same types as in the chase.
 #![tactic(auto)]
 
 mod answers;

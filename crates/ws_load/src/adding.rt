@@ -1,4 +1,4 @@
-//! What the mappings added to the rows.
+//! The tuples that mappings added to the rows.
 
 use base_types::{Memory, Operation, Tuple};
 use std::alloc::{AllocError, Global};
@@ -7,7 +7,7 @@ use ws_print::Text;
 use ws_space::Space;
 use ws_state::{MovedList, Standing};
 
-/// How many of the tuples that came were inserted by no row, by relation.
+/// For each relation, the number of tuples that came and that no row inserted; None if there are none.
 pub(crate) fn added_text(
     alloc: Global,
     space: &Space,
@@ -46,7 +46,7 @@ fn name_of(space: &Space, relation: u16) -> &str {
     }
 }
 
-// The tuples, by names, that the updates inserted which stand from this place on.
+// The tuples, by names, that were inserted by the updates which stand from place `first` on.
 fn inserted(alloc: Global, space: &Space, first: usize) -> Result<BTreeSet<Tuple>, Memory> {
     let mut tuples = BTreeSet::new(alloc);
     for standing in space.state.order().as_slice().iter().skip(first) {

@@ -1,4 +1,4 @@
-//! Spellings of a column that are alike but for capitals and blanks.
+//! Spellings in a column that differ only in capitals and blanks.
 
 use base_types::{Memory, Tuple, Value};
 use caseless::default_case_fold_str;
@@ -8,7 +8,7 @@ use ws_print::{Text, add_quoted};
 use ws_report::Note;
 use ws_space::Space;
 
-// How many groups of spellings are told of a column.
+// The greatest number of groups of spellings that are listed for a column.
 const MOST: usize = 3;
 
 /// Adds a hint for each column of a relation that has such spellings.
@@ -62,14 +62,14 @@ fn add_group(words: &mut Text, group: &[String]) {
     }
 }
 
-// The spellings by their forms, in the order of the first of each, and the place of each form among them.
+// The spellings grouped by form, in the order of the first spelling of each group, and the place of each form's group.
 #[derive(Drop)]
 struct Groups {
     groups: Vec<Vec<String>>,
     places: BTreeMap<String, usize>,
 }
 
-// The spellings of a column that are alike, each group in order, the groups in the order of their first ones.
+// The groups of similar spellings in a column. Each group is in order, and the groups are in the order of their first spellings.
 fn groups_of(alloc: Global, rows: &[Tuple], column: usize) -> Result<Vec<Vec<String>>, Memory> {
     let mut all = Groups {
         groups: Vec::new(alloc),
@@ -97,7 +97,7 @@ impl Groups {
         Ok(())
     }
 
-    // The place of the group of a spelling; a new form begins a group.
+    // The place of the spelling's group. A new form begins a group.
     fn place_of(&mut self, alloc: Global, text: &str) -> Result<usize, AllocError> {
         let form = form_of(alloc, text)?;
         if let Some(place) = self.places.get(&form) {
@@ -110,7 +110,7 @@ impl Groups {
     }
 }
 
-// The texts of a column, each once, in order.
+// The different texts of a column, in order.
 fn texts_of(alloc: Global, rows: &[Tuple], column: usize) -> Result<BTreeSet<String>, Memory> {
     let mut texts = BTreeSet::new(alloc);
     for tuple in rows {
@@ -121,7 +121,7 @@ fn texts_of(alloc: Global, rows: &[Tuple], column: usize) -> Result<BTreeSet<Str
     Ok(texts)
 }
 
-// What two texts have in common that are alike: the words without capitals, with one blank between them.
+// The form that similar texts share: their words without capitals, with one blank between two words.
 fn form_of(alloc: Global, text: &str) -> Result<String, AllocError> {
     let folded = default_case_fold_str(alloc, text)?;
     let mut form = Text::new(alloc);

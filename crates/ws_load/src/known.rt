@@ -1,4 +1,4 @@
-//! What a row is within, if it names nothing new.
+//! The tuple within that a row stands for, if the row names nothing new.
 
 use base_types::{Memory, Tuple};
 use std::alloc::Global;
@@ -6,7 +6,7 @@ use ws_hint::known_fact;
 use ws_space::Space;
 use ws_written::{Fact, NewFact, Unknown, Value};
 
-/// How a row stands to what is there.
+/// What a row stands for, given what is there.
 #[derive(Drop)]
 pub(crate) enum Row {
     /// It has a new unknown.
@@ -17,7 +17,7 @@ pub(crate) enum Row {
     Within(Tuple),
 }
 
-/// How the row stands to what is there now.
+/// What the row stands for, given what is there now.
 pub(crate) fn row_of(alloc: Global, space: &Space, fact: &NewFact) -> Result<Row, Memory> {
     let Some(known) = known_fact(alloc, fact)? else {
         return Ok(Row::New);

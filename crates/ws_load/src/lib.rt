@@ -1,7 +1,7 @@
 //! `load`: the rows of a file of comma-separated values, each an update of its own.
 //!
-//! How a file is read, and what is wrong with its rows, `ws_cells` tells. Here the rows become lines of one record, and the reply
-//! tells what they did.
+//! `ws_cells` reads the file and finds what is wrong with its rows. This crate turns the rows into the lines of one record, and
+//! makes the reply that says what they did.
 #![tactic(auto)]
 
 mod adding;

@@ -15,17 +15,17 @@ use ws_space::Space;
 use ws_state::Mark;
 use ws_written::{Relation, Unknown};
 
-/// The most tuples of a workspace.
+/// The greatest number of tuples in a workspace.
 const TUPLES: usize = 1_000_000;
 
-/// What is loaded: the bytes of the file, and what faults call it.
+/// What is loaded: the bytes of the file, and its name in faults.
 #[derive(Clone, Copy)]
 pub struct Input<'a> {
     pub path: &'a str,
     pub bytes: &'a [u8],
 }
 
-/// Loads the rows, as said by whom the space was told. All that is wrong with the file is told; then, and if a row is spent,
+/// Loads the rows, in the name of the curator whom the space knows. The refusal lists all faults of the file. After a refusal,
 /// nothing is to be recorded, and the space may have changed.
 pub fn load(
     alloc: Global,
@@ -38,7 +38,7 @@ pub fn load(
     load_rows(alloc, space, context, load, fitted, loaded)
 }
 
-// How the file fits, and its rows.
+// How the file fits the relation, and its rows.
 fn read(
     alloc: Global,
     space: &Space,
@@ -63,7 +63,7 @@ fn read_as(
     Ok((fitted, loaded))
 }
 
-// How the file fits, by its header.
+// How the file fits the relation, by its header.
 fn fitted_by(
     alloc: Global,
     space: &Space,
@@ -93,7 +93,7 @@ fn rows_of(
     facts_of(alloc, reader, form, fitted, standing.as_slice(), path)
 }
 
-// The unknowns that stand, if cells may name them.
+// The unknowns that cells may name; none unless the form allows it.
 fn unknowns_for(alloc: Global, space: &Space, form: &Form) -> Result<Vec<Unknown>, Memory> {
     if form.unknowns {
         return standing_unknowns(alloc, space);
@@ -101,7 +101,7 @@ fn unknowns_for(alloc: Global, space: &Space, form: &Form) -> Result<Vec<Unknown
     Ok(Vec::new(alloc))
 }
 
-// Declares the relation, if it has to be, inserts the rows, and tells of it.
+// Declares the relation if needed, inserts the rows, and makes the reply.
 fn load_rows(
     alloc: Global,
     space: &mut Space,
@@ -123,7 +123,7 @@ fn load_rows(
     }
 }
 
-// The reply, after the rows were inserted.
+// Inserts the rows, and returns the reply.
 fn told(
     alloc: Global,
     space: &mut Space,
@@ -155,7 +155,7 @@ fn told(
     Ok(report.into_reply(alloc, space, context, is_recorded)?)
 }
 
-// Where the updates begin: how many stood before them, and the place in the log.
+// The beginning of the updates: the number of updates that stood before them, and the place in the log.
 #[derive(Clone, Copy)]
 struct Begin {
     first: usize,
@@ -197,7 +197,7 @@ fn report_of(
     loading.report(alloc, space, line, begin.first, effect)
 }
 
-// The rows may be more than there is room for.
+// Refuses more rows than there is room for.
 fn has_room(alloc: Global, space: &Space, rows: usize) -> Result<(), Refusal> {
     if space.state.facts().len().saturating_add(rows) <= TUPLES {
         return Ok(());

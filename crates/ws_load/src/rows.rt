@@ -1,4 +1,4 @@
-//! The rows as updates: each that is not there yet is inserted by one of its own.
+//! The rows as updates: each row that is not there yet gets an update that inserts it.
 
 use crate::faults::refused;
 use crate::known::{Row, row_of};
@@ -12,8 +12,8 @@ use ws_space::Space;
 use ws_state::Told;
 use ws_written::{Line, NewFact, NumberedUpdate, Relation, Unknown, Update};
 
-/// What became of the rows: the numbers of the updates that are done and of those that wait, how many rows were there already,
-/// and the lines of the record.
+/// What became of the rows: the numbers of the updates that are done and of the updates that wait, the number of rows that were
+/// there already, and the lines of the record.
 #[derive(Drop)]
 pub(crate) struct Inserted {
     pub done: Vec<u32>,
@@ -23,7 +23,7 @@ pub(crate) struct Inserted {
 }
 
 impl Inserted {
-    /// No row was inserted yet.
+    /// The beginning: no row is inserted yet.
     pub fn new(alloc: Global) -> Inserted {
         Inserted {
             done: Vec::new(alloc),
@@ -50,8 +50,8 @@ impl Inserted {
         }
     }
 
-    /// Inserts each row that is not there, with a budget of steps. It is refused if an unknown that a row names was filled by
-    /// a row before it, or if the steps of one do not suffice.
+    /// Inserts each row that is not there, each with a budget of `steps`. It is refused if a row names an unknown that an earlier
+    /// row filled, or if the steps for a row do not suffice.
     pub fn add_all(
         &mut self,
         alloc: Global,
@@ -87,7 +87,7 @@ impl Inserted {
         }
     }
 
-    // Takes the line of an update, and counts it among those that are done or among those that wait.
+    // Takes the line of an update, and counts the update as done or as waiting.
     fn take(
         &mut self,
         alloc: Global,
@@ -118,7 +118,8 @@ impl Inserted {
 
 // The line that inserts a tuple.
 fn insertion(alloc: Global, number: u32, steps: u32, fact: NewFact) -> Result<Line, AllocError> {
-    // A load has a list for each row: there is room for one tuple alone. If memory lacks for it, the push tells that.
+    // A load has such a list for each row, so it reserves room for one tuple alone. If memory runs out, the push returns the
+    // error.
     let mut facts = Vec::new(alloc);
     let _ = facts.reserve_exact(1);
     facts.push(fact)?;
@@ -129,7 +130,7 @@ fn insertion(alloc: Global, number: u32, steps: u32, fact: NewFact) -> Result<Li
     }))
 }
 
-// Whether the row is there already.
+// Whether the row is there already. It is refused if it names an unknown that is not there any more.
 fn is_there(alloc: Global, space: &Space, row: &LoadedRow) -> Result<bool, Refusal> {
     match row_of(alloc, space, &row.fact)? {
         Row::Lost(unknown) => Err(lost(alloc, row, unknown)?),
@@ -148,7 +149,7 @@ fn next_number(alloc: Global, space: &Space) -> Result<u32, Refusal> {
     }
 }
 
-// That the row names an unknown that is not there any more.
+// The refusal: the row names an unknown that is not there any more.
 fn lost(alloc: Global, row: &LoadedRow, unknown: Unknown) -> Result<Refusal, AllocError> {
     let line = row.line;
     let number = row.row;

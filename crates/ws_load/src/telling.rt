@@ -1,4 +1,4 @@
-//! What is told of a load.
+//! The report of a load.
 
 use crate::adding::added_text;
 use crate::alike::add_alike;
@@ -15,10 +15,10 @@ use ws_space::Space;
 use ws_state::{Effect, MovedList};
 use ws_written::{Line, NewFact, NumberedUpdate, Update};
 
-// How many hints about rows are told.
+// The greatest number of hints about rows.
 const HINTS: usize = 3;
 
-/// What was loaded: into which relation, how many rows the file had, how many of them were passed over, and what became of the
+/// What was loaded: the relation, the number of rows in the file, the number of rows that were skipped, and what became of the
 /// others.
 #[derive(Clone, Copy)]
 pub(crate) struct Loading<'a> {
@@ -28,7 +28,7 @@ pub(crate) struct Loading<'a> {
     pub inserted: &'a Inserted,
 }
 
-// What is told after the effect: hints, what may be said next, and which updates it was.
+// What the report says after the effect: hints, the commands that may follow, and which updates were made.
 #[derive(Drop)]
 struct Rest {
     notes: Vec<Note>,
@@ -36,7 +36,7 @@ struct Rest {
     counted: Option<Counted>,
 }
 
-/// `load NAME FILE`, or with the lines that were asked for. It is refused only for want of memory.
+/// `load NAME FILE`, or the number of lines in place of the file.
 pub(crate) fn line_of(alloc: Global, load: &Load) -> Result<String, AllocError> {
     let name = load.relation.as_str();
     match &load.source {
@@ -49,7 +49,7 @@ pub(crate) fn line_of(alloc: Global, load: &Load) -> Result<String, AllocError> 
 }
 
 impl<'a> Loading<'a> {
-    /// What is told if nothing is to be recorded.
+    /// The report if nothing is to be recorded.
     pub fn nothing(&self, alloc: Global, line: String) -> Result<Report, AllocError> {
         let did = if 0 < self.inserted.there {
             "there already"
@@ -74,7 +74,7 @@ impl<'a> Loading<'a> {
         })
     }
 
-    /// What is told of the updates, which begin at this place of the order, and of what they did.
+    /// The report of the updates, which stand from place `first` on, and of their effect.
     pub fn report(
         &self,
         alloc: Global,
@@ -119,7 +119,7 @@ impl<'a> Loading<'a> {
         (Status::Waits, "waits")
     }
 
-    // What the rows came to, and what the mappings added.
+    // The lines for what became of the rows, and for what the mappings added.
     fn also(
         &self,
         alloc: Global,
@@ -135,7 +135,7 @@ impl<'a> Loading<'a> {
         Ok(also)
     }
 
-    // What may be said next.
+    // The commands that may follow.
     fn next(&self, alloc: Global) -> Result<Vec<String>, AllocError> {
         let mut next = Vec::new(alloc);
         if !self.inserted.waiting.is_empty() {
@@ -195,7 +195,7 @@ impl<'a> Loading<'a> {
         Ok(notes)
     }
 
-    // The tuple that a line inserted, if it is an update that is done.
+    // The tuple that a line inserted, if its update is done.
     fn done_fact<'b>(&self, line: &'b Line) -> Option<&'b NewFact> {
         match line {
             Line::Update(numbered) if self.is_done(numbered.number) => fact_of(numbered),
@@ -207,7 +207,7 @@ impl<'a> Loading<'a> {
         self.inserted.done.binary_search(&number).is_ok()
     }
 
-    // The first hints about rows that are inserted, and how many more there are.
+    // The first hints about rows that were inserted, and the number of further ones.
     fn hints(&self, alloc: Global, space: &Space) -> Result<Vec<Note>, Memory> {
         let mut all = self.row_hints(alloc, space)?;
         let more = all.len().saturating_sub(HINTS);

@@ -1,4 +1,4 @@
-//! Tuples of one key.
+//! Tuples with the same key.
 
 use base_types::{Memory, TryCopy, Tuple, ValueList};
 use std::alloc::Global;
@@ -8,14 +8,14 @@ use ws_question::inner_text;
 use ws_space::{Space, has_unknown};
 use ws_written::Relation;
 
-/// The clashes of a relation's key: for each key that several tuples have these tuples, as commands take them.
+/// The clashes of a relation's key: for each key that several tuples have, these tuples in the form that commands take.
 #[derive(Drop)]
 pub(crate) struct Clashes {
     pub relation: usize,
     pub groups: Vec<Vec<String>>,
 }
 
-/// The clashes of the keys, relation by relation; those without a clash are left out.
+/// The clashes of the keys, relation by relation; relations without a clash are left out.
 pub(crate) fn clashes_of(alloc: Global, space: &Space) -> Result<Vec<Clashes>, Memory> {
     let mut all = Vec::new(alloc);
     for (number, relation) in space.relations.iter().enumerate() {
@@ -56,7 +56,7 @@ fn clashing(
     Ok(clashing)
 }
 
-/// The tuples, as commands take them.
+/// The tuples in the form that commands take.
 pub(crate) fn inner_texts(
     alloc: Global,
     space: &Space,
@@ -69,14 +69,14 @@ pub(crate) fn inner_texts(
     Ok(texts.done()?)
 }
 
-// The tuples by their keys, in the order of the first of each, and the place of each key among them.
+// The tuples grouped by their keys, in the order of the first tuple of each group, and the place of each key's group.
 #[derive(Drop)]
 struct Groups {
     places: BTreeMap<Tuple, usize>,
     groups: Vec<Vec<Tuple>>,
 }
 
-// The tuples of a relation by their keys without unknowns.
+// The tuples of a relation grouped by their keys, without the tuples that have an unknown in the key.
 fn grouped(
     alloc: Global,
     space: &Space,
@@ -105,7 +105,7 @@ impl Groups {
         Ok(())
     }
 
-    // A tuple with an unknown in its key is left out.
+    // Adds the tuple to its group, unless it has an unknown in its key.
     fn add(&mut self, alloc: Global, relation: &Relation, tuple: Tuple) -> Result<(), Memory> {
         let place = self.place_of(alloc, relation, &tuple)?;
         if let Some(group) = self.groups.get_mut(place.unwrap_or(usize::MAX)) {
@@ -114,7 +114,7 @@ impl Groups {
         Ok(())
     }
 
-    // The place of the group of a tuple's key; a new one begins a group.
+    // The place of the group of the tuple's key. A new key begins a group; a key with an unknown has none.
     fn place_of(
         &mut self,
         alloc: Global,

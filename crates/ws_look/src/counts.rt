@@ -5,7 +5,7 @@ use std::alloc::Global;
 use std::collections::BTreeSet;
 use ws_space::Space;
 
-/// What is counted: the tuples of each relation, the unknowns, the violations of each proposed mapping, and those that wait.
+/// The counts: the tuples of each relation, the unknowns, the violations of each proposed mapping, and the updates that wait.
 #[derive(Drop)]
 pub(crate) struct Counts {
     pub rows: Vec<usize>,
@@ -15,7 +15,7 @@ pub(crate) struct Counts {
 }
 
 impl Counts {
-    /// How many tuples the relation of this number has.
+    /// The number of tuples in the relation with this number.
     pub(crate) fn rows_at(&self, relation: usize) -> usize {
         self.rows.get(relation).copied().unwrap_or(0)
     }
@@ -31,7 +31,7 @@ impl Counts {
     }
 }
 
-/// What is here, counted.
+/// The counts of the workspace.
 pub(crate) fn counted(alloc: Global, space: &Space) -> Result<Counts, Memory> {
     Ok(Counts {
         unknowns: count_unknowns(alloc, space)?,

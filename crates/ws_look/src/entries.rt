@@ -1,4 +1,4 @@
-//! The lines of records as the log tells them.
+//! The lines of records as `log` prints them.
 
 use base_types::Memory;
 use std::alloc::Global;
@@ -9,8 +9,8 @@ use ws_space::{Recorded, Space, Statuses};
 use ws_state::Status;
 use ws_written::{Line, Relation, SaidLine, Stamp};
 
-/// A line of a record: the record's number and stamp, the number and state of the update, if it is one, the line as it is told,
-/// and its comment.
+/// A line of a record: the record's number and stamp, the number and status of the update, if it is one, the line in printed
+/// form, and its comment.
 #[derive(Drop)]
 pub(crate) struct Entry<'a> {
     pub at: u32,
@@ -21,7 +21,7 @@ pub(crate) struct Entry<'a> {
     pub comment: &'a str,
 }
 
-/// The first lines of a record, so many at most; how an update stands is looked up one by one if it was not found for all before.
+/// The first lines of a record, at most `most`. If `statuses` is None, the status of each update is looked up on its own.
 pub(crate) fn entries_of<'a>(
     alloc: Global,
     space: &Space,
@@ -54,7 +54,7 @@ fn entry_of<'a>(
     })
 }
 
-// The number of the update, if the line is one.
+// The number of the update, if the line says one.
 fn number_of(said: &SaidLine) -> Option<u32> {
     match &said.line {
         Line::Update(numbered) => Some(numbered.number),
@@ -62,7 +62,7 @@ fn number_of(said: &SaidLine) -> Option<u32> {
     }
 }
 
-/// The number of the update of a record's last line, if that is one.
+/// The number of the update that a record's last line says, if it says one.
 pub(crate) fn last_number(recorded: &Recorded) -> Option<u32> {
     match recorded.record.lines.last() {
         Some(said) => number_of(said),
@@ -82,7 +82,7 @@ fn state_of(space: &Space, statuses: Option<&Statuses>, number: Option<u32>) -> 
     }
 }
 
-// The line, without the number and the budget of an update, and without the question of an answer.
+// The line without an update's number and budget, and without an answer's question.
 fn line_text(alloc: Global, relations: &[Relation], line: &Line) -> Result<String, Memory> {
     let mut text = Text::new(alloc);
     add_text(&mut text, relations, line);
@@ -100,7 +100,7 @@ fn add_text(text: &mut Text, relations: &[Relation], line: &Line) {
     }
 }
 
-/// `R  TIME  CURATOR  [N ]LINE[  (STATE)][  # COMMENT]`. It is refused only for want of memory.
+/// `R  TIME  CURATOR  [N ]LINE[  (STATE)][  # COMMENT]`.
 pub(crate) fn entry_line(alloc: Global, entry: &Entry<'_>) -> Result<String, Memory> {
     let mut line = Text::new(alloc);
     add_entry(&mut line, entry);

@@ -8,7 +8,7 @@ use ws_help::help_text;
 use ws_print::Lines;
 use ws_reply::{Context, Reply, object_of, seen_object, seen_text};
 
-/// The help of a command, or of all.
+/// The help page of a command, or of all commands.
 pub fn help(alloc: Global, context: &Context<'_>, verb: Option<Verb>) -> Result<Reply, Memory> {
     let text = help_text(alloc, verb)?;
     if context.is_json() {

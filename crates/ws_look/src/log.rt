@@ -9,12 +9,12 @@ use ws_print::Lines;
 use ws_reply::{Context, Reply, refused, seen_objects, seen_text};
 use ws_space::{Recorded, Space};
 
-// Of a record with more lines than `MOST` the first `FIRST` are told.
+// From a record with more than `MOST` lines, only the first `FIRST` are printed.
 pub(crate) const MOST: usize = 6;
 
 pub(crate) const FIRST: usize = 3;
 
-/// The records, or the last so many.
+/// The records, or the last `limit` of them.
 pub(crate) fn log(
     alloc: Global,
     space: &Space,
@@ -36,7 +36,7 @@ pub(crate) fn log(
     Ok(seen_text(Status::Done, lines.done()?))
 }
 
-// That records were folded, if some were.
+// Adds a line that records were folded, if some were.
 fn add_folded(alloc: Global, lines: &mut Lines, space: &Space, records: &[Recorded]) {
     let folded = space.folded;
     if folded == 0 {
@@ -50,7 +50,7 @@ fn add_folded(alloc: Global, lines: &mut Lines, space: &Space, records: &[Record
     lines.made(format!(in alloc; "what came before was folded, up to {folded}"));
 }
 
-/// The records after the one of this number, or the first so many of them. It is refused if that record was folded or is not
+/// The records after the one with this number, or the first `limit` of them. It is refused if that record was folded or is not
 /// there.
 pub(crate) fn log_since(
     alloc: Global,
@@ -112,7 +112,7 @@ fn add_records(
     Ok(())
 }
 
-// How many lines more a record has.
+// The line for the number of further lines of a record.
 fn rest_line(alloc: Global, recorded: &Recorded) -> Result<String, Memory> {
     let at = recorded.at;
     let more = recorded.record.lines.len().saturating_sub(FIRST);

@@ -8,7 +8,7 @@ use ws_json::{Items, Object};
 use ws_reply::{number_of, object_of};
 use ws_space::{Recorded, Space, Statuses};
 
-/// The lines of the records, each an object.
+/// The lines of the records, each as an object.
 pub(crate) fn entry_objects(
     alloc: Global,
     space: &Space,
@@ -26,7 +26,7 @@ pub(crate) fn entry_objects(
     Ok(objects)
 }
 
-// Adds the lines of a record; if they are many, the first of them alone have their comments.
+// Adds the lines of a record. If there are many, only the first of them have their comments.
 fn add_entries(
     alloc: Global,
     objects: &mut Vec<Object>,
@@ -54,7 +54,7 @@ fn entry_object(alloc: Global, entry: &Entry<'_>, has_comment: bool) -> Object {
     object
 }
 
-// The line of an entry, and if it has them its number, state and comment.
+// Adds the line of an entry, and its number, state and comment if it has them.
 fn add_entry(object: &mut Object, entry: &Entry<'_>, has_comment: bool) {
     object.text("line", entry.text.as_str());
     if let Some(number) = entry.number {
@@ -66,7 +66,7 @@ fn add_entry(object: &mut Object, entry: &Entry<'_>, has_comment: bool) {
     }
 }
 
-/// The records, each an object with its first lines.
+/// The records, each as an object with its first lines.
 pub(crate) fn record_objects(
     alloc: Global,
     space: &Space,
@@ -103,7 +103,7 @@ fn record_object(alloc: Global, space: &Space, recorded: &Recorded) -> Result<Ob
     Ok(object)
 }
 
-// The first lines.
+// The first lines, as items.
 fn line_items(alloc: Global, entries: &[Entry<'_>]) -> Items {
     let mut items = Items::new(alloc);
     for entry in entries.iter() {

@@ -12,7 +12,7 @@ use ws_space::Space;
 use ws_state::{Standing, Status, Waiting};
 use ws_written::{Choice, Line};
 
-// An update: its answers, how it stands, in words, and what it wrote.
+// An update: its answers, its status, with words about it, and what it wrote.
 #[derive(Drop)]
 struct Told {
     number: u32,
@@ -29,7 +29,7 @@ struct Wrote {
     text: String,
 }
 
-/// The update of this number: its line, its answers, how it stands, and what it wrote. It is refused if there is none.
+/// The update with this number: its line, its answers, its status, and what it wrote. It is refused if there is none.
 pub(crate) fn log_one(
     alloc: Global,
     space: &mut Space,
@@ -65,7 +65,7 @@ fn told_of(alloc: Global, space: &mut Space, number: u32, status: Status) -> Res
     })
 }
 
-// How it stands, in words.
+// The words about its status.
 fn words_of(
     alloc: Global,
     space: &mut Space,
@@ -137,7 +137,7 @@ fn wrote_of(alloc: Global, space: &Space, write: &Write) -> Result<Wrote, Memory
     Ok(Wrote { sign, text })
 }
 
-// The choices of the answers that it took; of one that neither stands nor waits those that were given to it.
+// The choices of the answers that the update took; if it neither stands nor waits, the choices of the answers that it was given.
 fn answers_of(alloc: Global, space: &Space, number: u32) -> Result<Vec<String>, Memory> {
     if let Some(standing) = standing_of(space, number) {
         return choices(alloc, space, standing.answers.as_slice());
@@ -157,7 +157,7 @@ fn choices(alloc: Global, space: &Space, answers: &[Given]) -> Result<Vec<String
     Ok(choices.done()?)
 }
 
-// What the log has of answers to it, those that were taken back apart.
+// The choices of the answers in the log, without the answers that were taken back.
 fn given(alloc: Global, space: &Space, number: u32) -> Result<Vec<String>, Memory> {
     let mut given = Vec::new(alloc);
     for recorded in space.records.iter() {

@@ -15,8 +15,8 @@ use ws_reply::{Context, Reply, seen_text};
 use ws_space::Space;
 use ws_why::{why_fact, why_unknown};
 
-/// The reply to a command that only looks. Of `graph`, `page`, `dump` and `export`, which give out texts, it tells nothing. It is
-/// refused if what is asked for is not there.
+/// The reply to a command that only looks. It is empty for `graph`, `page`, `dump` and `export`, whose texts are made elsewhere.
+/// It is refused if what is asked for is not there.
 pub fn look(
     alloc: Global,
     space: &mut Space,

@@ -9,7 +9,7 @@ use ws_question::{AskedNow, question_lines, question_object};
 use ws_reply::object_of;
 use ws_space::Space;
 
-/// The updates with their questions.
+/// The lines for the updates and their questions.
 pub(crate) fn lines(
     alloc: Global,
     space: &Space,
@@ -69,7 +69,7 @@ fn add_asked(
     Ok(())
 }
 
-/// The updates with their questions, each an object.
+/// The updates with their questions, each as an object.
 pub(crate) fn objects(
     alloc: Global,
     space: &Space,

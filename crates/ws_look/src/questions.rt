@@ -1,4 +1,4 @@
-//! `questions`: what waits, and for which answer.
+//! `questions`: the updates that wait, and the answers that they wait for.
 
 use crate::question_told::{lines, objects};
 use base_types::Memory;
@@ -10,12 +10,13 @@ use ws_run::{Question, Reason};
 use ws_space::Space;
 use ws_state::Status;
 
-// How many candidates are shown of each question, and how many of one that is asked for.
+// The greatest number of candidates shown for each question, and for one question that is asked for.
 const OF_EACH: usize = 10;
 
 const OF_ONE: usize = 50;
 
-/// Which questions are told: that of an update, or all; with which of their candidates; and whether only one's own.
+/// Which questions are wanted: that of one update, or all; which of their candidates; and whether only those of one's own
+/// updates.
 #[derive(Clone, Copy)]
 pub(crate) struct Wanted<'a> {
     pub number: Option<u32>,
@@ -25,7 +26,7 @@ pub(crate) struct Wanted<'a> {
 }
 
 impl<'a> Wanted<'a> {
-    /// The same; an empty text is none.
+    /// Which questions are wanted. An empty text in `like` counts as None.
     pub(crate) fn of(
         number: Option<u32>,
         like: Option<&'a str>,
@@ -45,7 +46,7 @@ impl<'a> Wanted<'a> {
     }
 }
 
-/// An update that waits: its question, or why it waits without one.
+/// An update that waits: its question, or the reason why it waits without one.
 #[derive(Drop)]
 pub(crate) struct Told {
     pub number: u32,
@@ -54,15 +55,15 @@ pub(crate) struct Told {
     pub words: String,
 }
 
-/// How its candidates are told.
+/// Which candidates are shown, and the greatest number of them.
 #[derive(Clone, Copy)]
 pub(crate) struct Telling<'a> {
     pub like: Option<&'a str>,
     pub limit: usize,
 }
 
-/// The updates that wait, each with its question, or why it waits. The questions count as shown. It is refused if an update that
-/// was asked for does not wait.
+/// The updates that wait, each with its question or the reason. The questions then count as shown. It is refused if an update
+/// that was asked for does not wait.
 pub(crate) fn questions(
     alloc: Global,
     space: &mut Space,
@@ -146,7 +147,7 @@ fn wanted_numbers(
     Ok(numbers)
 }
 
-// Those of the updates that this curator said.
+// The updates among these that this curator said.
 fn numbers_of(
     alloc: Global,
     space: &Space,
@@ -169,7 +170,7 @@ fn one_number(alloc: Global, space: &Space, number: u32) -> Result<Vec<u32>, Ref
     Ok(numbers)
 }
 
-// An update that does not wait is refused.
+// Refuses an update that does not wait.
 fn refuse_others(alloc: Global, space: &Space, number: u32) -> Result<(), Refusal> {
     let status = match status_of(alloc, space, number)? {
         Status::Waits => return Ok(()),
@@ -212,7 +213,7 @@ fn unasking(
     })
 }
 
-// Why an update waits without a question.
+// The kind of reason why an update waits without a question.
 fn kind_of(reason: Option<&Reason>) -> &'static str {
     match reason {
         None => "none",

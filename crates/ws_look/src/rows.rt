@@ -30,7 +30,7 @@ fn constant(alloc: Global, space: &Space, term: &Term) -> Result<Option<Value>, 
     }
 }
 
-// Whether each variable stands for one value alone.
+// Whether each variable has the same value everywhere.
 fn agrees(atom: &Atom, tuple: &Tuple) -> bool {
     for (place, term) in atom.terms.iter().enumerate() {
         if !agrees_with(atom, tuple, term, tuple.values.get(place)) {
@@ -40,7 +40,7 @@ fn agrees(atom: &Atom, tuple: &Tuple) -> bool {
     true
 }
 
-// Whether each place in which the term stands as a variable has this value.
+// Whether this value is in each place that has the term, if the term is a variable.
 fn agrees_with(atom: &Atom, tuple: &Tuple, term: &Term, value: Option<&Value>) -> bool {
     for (place, other) in atom.terms.iter().enumerate() {
         if is_one_variable(term, other) && tuple.values.get(place) != value {
@@ -59,7 +59,7 @@ fn is_one_variable(term: &Term, other: &Term) -> bool {
     }
 }
 
-/// Those of the tuples that have an unknown, if such are asked for.
+/// The tuples; with `--unknowns`, only the tuples that have an unknown.
 pub(crate) fn uncertain(tuples: Vec<Tuple>, paging: &Paging) -> Vec<Tuple> {
     let mut tuples = tuples;
     if paging.unknowns {
@@ -68,7 +68,7 @@ pub(crate) fn uncertain(tuples: Vec<Tuple>, paging: &Paging) -> Vec<Tuple> {
     tuples
 }
 
-/// Those of the tuples that have the text of `--like` in a cell, if there is one.
+/// The tuples; with `--like`, only the tuples with its text in a cell.
 pub(crate) fn alike(
     alloc: Global,
     space: &Space,
@@ -97,7 +97,7 @@ fn having(
     Ok(found)
 }
 
-// Whether a cell has the text in it, as it is shown, capitals apart.
+// Whether a cell, as it is shown, contains the text, ignoring capitals.
 fn has_text(alloc: Global, space: &Space, tuple: &Tuple, like: &str) -> Result<bool, Memory> {
     let fact = space.shown(alloc, tuple)?;
     for value in &fact.values {

@@ -1,4 +1,4 @@
-//! `status`: what is here.
+//! `status`: what the workspace has.
 
 use crate::counts::{Counts, counted};
 use crate::status_object::status_object;
@@ -11,10 +11,10 @@ use ws_reply::{Context, Reply, seen_object, seen_text};
 use ws_space::Space;
 use ws_written::Relation;
 
-// How many of those that wait are told.
+// The greatest number of updates that wait to be listed.
 const WAITING: usize = 10;
 
-/// What is here: relations, mappings, what waits, the last update and the last record.
+/// What the workspace has: relations, mappings, the updates that wait, the last update and the last record.
 pub(crate) fn status(alloc: Global, space: &Space, context: &Context<'_>) -> Result<Reply, Memory> {
     let counts = counted(alloc, space)?;
     reply(alloc, space, context, &counts)

@@ -10,7 +10,7 @@ use ws_reply::{Context, column_items, number_of, object_of};
 use ws_space::Space;
 use ws_written::Relation;
 
-/// What is here.
+/// The object of what the workspace has.
 pub(crate) fn status_object(
     alloc: Global,
     space: &Space,
@@ -56,7 +56,7 @@ fn relation_object(alloc: Global, relation: &Relation, count: usize) -> Object {
     object
 }
 
-// The numbers of the columns of the key, counted from 1.
+// The numbers of the key's columns, counted from 1.
 fn key_items(alloc: Global, relation: &Relation) -> Items {
     let mut items = Items::new(alloc);
     for (place, column) in relation.columns.iter().enumerate() {

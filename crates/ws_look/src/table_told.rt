@@ -10,7 +10,7 @@ use ws_reply::{column_items, number_items, number_of, object_of, row_items};
 use ws_space::Space;
 use ws_written::Column;
 
-/// The tables, parted by empty lines.
+/// The tables, with empty lines between them.
 pub(crate) fn lines(
     alloc: Global,
     space: &Space,
@@ -91,7 +91,7 @@ fn add_table(alloc: Global, lines: &mut Lines, told: &Told<'_>) -> Result<(), Me
     Ok(())
 }
 
-// The name of the column, with a star if it is of the key.
+// The name of the column, with a star if it belongs to the key.
 fn column_name(alloc: Global, column: &Column) -> Result<String, AllocError> {
     let mut name = Text::from_str(alloc, column.name.as_str());
     if column.key {
@@ -100,7 +100,7 @@ fn column_name(alloc: Global, column: &Column) -> Result<String, AllocError> {
     name.done()
 }
 
-/// The tables, each an object.
+/// The tables, each as an object.
 pub(crate) fn objects(
     alloc: Global,
     tables: &[Told<'_>],

@@ -11,7 +11,7 @@ use ws_reply::{Context, Reply, seen_objects, seen_text};
 use ws_space::Space;
 use ws_written::{Fact, Relation};
 
-/// A table that is told: its rows, of how many, and the updates that wait with tuples of it.
+/// A table to print: some of its rows, the number of all, and the updates that wait with tuples of it.
 #[derive(Drop)]
 pub(crate) struct Told<'a> {
     pub relation: &'a Relation,
@@ -21,7 +21,7 @@ pub(crate) struct Told<'a> {
     pub is_whole: bool,
 }
 
-/// The tables, or the rows that the atoms match; of each those that are meant.
+/// The tables, or the rows that the atoms match; from each, the rows that `paging` selects.
 pub(crate) fn show(
     alloc: Global,
     space: &Space,
@@ -51,7 +51,7 @@ fn reply(
     Ok(seen_text(Status::Done, lines(alloc, space, tables, paging)?))
 }
 
-// All tables; if only some rows are meant, those that have such.
+// Adds all tables. If only some rows are selected, tables without such rows are left out.
 fn add_all<'a>(
     alloc: Global,
     space: &'a Space,
@@ -92,7 +92,7 @@ fn add_shown<'a>(
     Ok(())
 }
 
-// The rows of a relation that was named, unless such with unknowns are meant and it has none.
+// Adds the rows of a named relation, unless only rows with unknowns are wanted and there are none.
 fn add_named<'a>(
     alloc: Global,
     space: &'a Space,
@@ -114,7 +114,7 @@ fn add_named<'a>(
     Ok(())
 }
 
-/// The place of the first row that is told.
+/// The place of the first row to print.
 pub(crate) fn first_of(paging: &Paging) -> usize {
     (paging.from.unwrap_or(1) as usize).saturating_sub(1)
 }
@@ -138,7 +138,7 @@ fn told_of<'a>(
     })
 }
 
-// The tuples that are told, as they are said.
+// The tuples of the page, in the said form.
 fn page(
     alloc: Global,
     space: &Space,

@@ -1,4 +1,4 @@
-//! `violations`: what is missing for mappings, and which keys clash.
+//! `violations`: what mappings lack, and which keys clash.
 
 use crate::clashes::{Clashes, clashes_of, inner_texts};
 use crate::violation_lines::lines;
@@ -11,17 +11,17 @@ use ws_reply::{Context, Reply, seen_objects, seen_text};
 use ws_space::{Space, Violation};
 use ws_written::NewFact;
 
-// How many are told of each.
+// The greatest number of violations that are listed for each mapping.
 const OF_EACH: usize = 3;
 
-/// A violation: the image, and what it lacks, as commands take them.
+/// A violation: its image, and the tuples that it lacks, in the form that commands take.
 #[derive(Drop)]
 pub(crate) struct Lack {
     pub since: Vec<String>,
     pub lacks: Vec<String>,
 }
 
-/// A mapping: whether it is in force, how many violations it has, and the first of them.
+/// A mapping: whether it is in force, the number of its violations, and the first of them.
 #[derive(Drop)]
 pub(crate) struct Told {
     pub mapping: u16,
@@ -30,7 +30,7 @@ pub(crate) struct Told {
     pub first: Vec<Lack>,
 }
 
-/// The violations of a mapping, or of all and the clashes of keys.
+/// The violations of one mapping, or of all mappings, together with the clashes of keys.
 pub(crate) fn violations(
     alloc: Global,
     space: &Space,
@@ -91,7 +91,7 @@ fn limit_of(mapping: Option<&str>, limit: Option<u32>) -> usize {
     }
 }
 
-// The numbers of the mappings that are told.
+// The numbers of the mappings to report.
 fn wanted(alloc: Global, space: &Space, mapping: Option<&str>) -> Result<Vec<u16>, Memory> {
     let mut numbers = Vec::new(alloc);
     for (number, rule) in space.rules.iter().enumerate() {

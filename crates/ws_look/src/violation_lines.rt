@@ -7,7 +7,7 @@ use std::alloc::{AllocError, Global};
 use ws_print::{Lines, Text, add_count, add_form};
 use ws_space::Space;
 
-/// The mappings with their violations, and the clashes of keys.
+/// The lines for the mappings with their violations, and for the clashes of keys.
 pub(crate) fn lines(
     alloc: Global,
     space: &Space,

@@ -9,7 +9,7 @@ use ws_json::{Items, Object};
 use ws_reply::{number_of, object_of, text_items};
 use ws_space::Space;
 
-/// The mappings with their violations, and the clashes of keys, each an object.
+/// The mappings with their violations, and the clashes of keys, each as an object.
 pub(crate) fn objects(
     alloc: Global,
     space: &Space,

@@ -4,7 +4,7 @@ use base_types::Memory;
 use std::alloc::Global;
 use ws_space::{Space, speaks_of};
 
-/// The numbers, rising, of those that have tuples of the relation.
+/// The numbers of the waiting updates that have tuples of the relation, in rising order.
 pub(crate) fn waiting_for(alloc: Global, space: &Space, relation: u32) -> Result<Vec<u32>, Memory> {
     let mut numbers = Vec::new(alloc);
     for waiting in space.state.waiting().as_slice() {

@@ -8,7 +8,7 @@ use ws_print::{Lines, Text, add_value};
 use ws_space::Space;
 use ws_written::{Fact, Relation, Value};
 
-/// The lines of a relation: its columns, and its rows.
+/// The lines of a relation: one for its columns, and one for each row.
 pub(crate) fn csv_lines(
     alloc: Global,
     space: &Space,

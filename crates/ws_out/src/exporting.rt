@@ -10,7 +10,7 @@ use ws_fault::{Fault, Refusal, Status};
 use ws_print::Lines;
 use ws_space::Space;
 
-/// What the text of the export is called in a reply.
+/// The word for the export's text in a reply.
 pub fn export_word(export: &Export) -> &'static str {
     if export.sql {
         return "sql";
@@ -18,7 +18,8 @@ pub fn export_word(export: &Export) -> &'static str {
     if export.json { "rows" } else { "csv" }
 }
 
-/// The lines of the export; a database is made of those of SQL. More than one form, and comma-separated values of more than one relation, are refused.
+/// The lines of the export; a database is made of the SQL lines. More than one form is refused, and so are comma-separated values
+/// of more than one relation.
 pub fn export(alloc: Global, space: &Space, export: &Export) -> Result<Vec<String>, Refusal> {
     if is_torn(export) {
         let words = "one of --csv, --sql and --json";
@@ -47,7 +48,7 @@ pub fn export(alloc: Global, space: &Space, export: &Export) -> Result<Vec<Strin
     }
 }
 
-// Whether more than one form is named, or a database is to go into two files.
+// Whether more than one form is named, or a database is to be written together with another form or file.
 fn is_torn(export: &Export) -> bool {
     if export.sqlite.is_some() {
         return export.csv || export.sql || export.json || export.to.is_some();

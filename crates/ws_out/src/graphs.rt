@@ -1,11 +1,11 @@
-//! `graph`, and the mappings as they are drawn.
+//! `graph`, and the links that draw the mappings.
 
 use std::alloc::{AllocError, Global};
 use ws_draw::{Link, graph_lines, link_of};
 use ws_fault::Refusal;
 use ws_space::Space;
 
-/// The mappings that are not gone: those in force in their order, and then those that are only proposed.
+/// The mappings that are not gone: first those in force, in their order, then the proposed ones.
 pub(crate) fn mappings_of(alloc: Global, space: &Space) -> Result<Vec<u16>, AllocError> {
     let mut mappings = Vec::new(alloc);
     for mapping in space.state.in_force() {
@@ -25,7 +25,7 @@ pub(crate) fn is_open(space: &Space, mapping: u16) -> bool {
     !space.state.in_force().contains(&mapping)
 }
 
-/// The mappings as they are drawn.
+/// The links that draw the mappings.
 pub(crate) fn links_of(alloc: Global, space: &Space) -> Result<Vec<Link<'_>>, AllocError> {
     let mut links = Vec::new(alloc);
     for mapping in mappings_of(alloc, space)? {

@@ -1,7 +1,7 @@
 //! What leaves a workspace: `export` as comma-separated values, SQL or lines of JSON, `graph` in DOT, and `page`, one file of
 //! HTML.
 //!
-//! Each call gives the lines of its text. A line may have line feeds in it, if a text has.
+//! Each call returns the lines of its text. A line may contain line feeds if a text does.
 #![tactic(auto)]
 
 mod csv;

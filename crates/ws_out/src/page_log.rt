@@ -1,4 +1,4 @@
-//! The log of a page: each line of each record, and how its update stands.
+//! The log of a page: each line of each record, with the status of its update.
 
 use crate::pages::Document;
 use base_types::Memory;
@@ -43,7 +43,7 @@ fn add_record(
     Ok(())
 }
 
-// The cells that the lines of a record have in common.
+// The cells that all lines of a record share.
 fn beginning(document: &Document, recorded: &Recorded) -> Result<String, AllocError> {
     let at = recorded.at;
     let time = document.shown(recorded.record.stamp.time.as_str())?;
@@ -52,7 +52,7 @@ fn beginning(document: &Document, recorded: &Recorded) -> Result<String, AllocEr
     format!(in alloc; "<tr><td class=\"n\">{at}</td><td>{time}</td><td>{curator}</td>")
 }
 
-// The number of the update that a line is, the line, and how the update stands.
+// Adds the cells of a line: the number of its update, the line, and the update's status.
 fn add_cells(
     alloc: Global,
     out: &mut Text,
@@ -81,7 +81,7 @@ fn state_word(status: Option<Status>) -> &'static str {
     }
 }
 
-// A line without the number of its update, or the question that it answers.
+// The line without its update's number, and without an answer's question.
 fn line_text(alloc: Global, relations: &[Relation], line: &Line) -> Result<String, AllocError> {
     let mut text = Text::new(alloc);
     match line {

@@ -1,4 +1,4 @@
-//! The mappings of a page: their picture, and themselves.
+//! The mappings of a page: their picture, and their printed forms.
 
 use crate::graphs::{is_open, links_of, mappings_of};
 use crate::pages::Document;

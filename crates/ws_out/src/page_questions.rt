@@ -24,7 +24,7 @@ pub(crate) fn add_questions(document: &mut Document, space: &mut Space) -> Resul
     Ok(())
 }
 
-// What an update asks, or why it waits.
+// Adds what an update asks, or why it waits.
 fn add_stop(document: &mut Document, space: &mut Space, number: u32) -> Result<(), Memory> {
     let reason = space.question(document.alloc, number)?;
     match &reason {
@@ -71,7 +71,7 @@ fn add_question(
     Ok(())
 }
 
-// What is asked, and since when.
+// Adds what is asked, and the image that made the update ask.
 fn add_asked(document: &mut Document, space: &Space, question: &Question) -> Result<(), Memory> {
     let mapping = space.source_mapping(question.asked.source);
     let rule = space.rule_text(document.alloc, mapping.unwrap_or(u16::MAX))?;
@@ -99,7 +99,7 @@ fn add_wanted(
     Ok(())
 }
 
-// The tuples, as code between commas.
+// The tuples as code, with commas between them.
 fn codes(document: &Document, space: &Space, tuples: &List<Tuple>) -> Result<String, Memory> {
     let mut out = Text::new(document.alloc);
     for (place, tuple) in tuples.as_slice().iter().enumerate() {
@@ -126,7 +126,7 @@ fn add_candidate(
     Ok(())
 }
 
-// A row with the command that answers so.
+// Adds a row with the command for this answer.
 fn add_command(document: &mut Document, shown: &str, number: u32, word: &str, at: u32) {
     let mut line = Text::new(document.alloc);
     write!(line, "<tr><td>{shown}</td><td>");

@@ -28,7 +28,7 @@ fn add_table(document: &mut Document, relation: &Relation, facts: &[Fact]) {
     document.say("</table></div>");
 }
 
-// The beginning of a table, its columns in it.
+// The first line of a table, with its columns.
 fn head_line(alloc: Global, relation: &Relation, rows: usize) -> Result<String, AllocError> {
     let mut line = Text::from_str(alloc, "<div class=\"wide\"><table><caption>");
     add_html(&mut line, relation.name.as_str());

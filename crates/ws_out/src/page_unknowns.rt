@@ -1,4 +1,4 @@
-//! The unknowns of a page, each with the tuples in which it stands.
+//! The unknowns of a page, each with the tuples that have it.
 
 use crate::pages::Document;
 use crate::texts::relation_at;
@@ -10,16 +10,16 @@ use ws_question::inner_text;
 use ws_space::{Space, has_unknown, unknown_of};
 use ws_written::Unknown;
 
-// How many of the tuples of an unknown are told.
+// The greatest number of tuples that are listed for an unknown.
 const MOST: usize = 20;
 
 const HEADER: &str = "<table><tr><th scope=\"col\">Unknown</th><th scope=\"col\">Stands in</th>\
                       <th scope=\"col\">Command</th></tr>";
 
-/// The unknowns that stand, each with the first tuples that have it, as commands take them.
+/// The unknowns in tuples, each with the first tuples that have it, in the form that commands take.
 pub(crate) type Unknowns = BTreeMap<Unknown, Vec<String>>;
 
-/// The unknowns that stand.
+/// The unknowns of all relations.
 pub(crate) fn unknowns_of(alloc: Global, space: &Space) -> Result<Unknowns, Memory> {
     let mut unknowns = BTreeMap::new(alloc);
     for place in 0..space.relations.len() {
@@ -62,7 +62,7 @@ fn add_tuple(
     Ok(())
 }
 
-// Whether the value stands in front of this place too.
+// Whether an earlier place of the tuple has the value too.
 fn stands_before(tuple: &Tuple, place: usize, value: &Value) -> bool {
     for other in tuple.values.as_slice().iter().take(place) {
         if other == value {

@@ -1,4 +1,4 @@
-//! `page`: the workspace as one file of HTML, without script or anything from elsewhere.
+//! `page`: the workspace as one file of HTML, without scripts and without other files.
 
 use crate::page_log::add_log;
 use crate::page_mappings::add_mappings;
@@ -35,19 +35,19 @@ impl Document {
         self.lines.push_str(line);
     }
 
-    /// Adds a line that was made, if there was memory for it.
+    /// Adds a line if there was memory to make it.
     pub fn made<E: Drop>(&mut self, line: Result<String, E>) {
         self.lines.made(line);
     }
 
-    /// The text as it is shown by HTML.
+    /// The text, escaped for HTML.
     pub fn shown(&self, text: &str) -> Result<String, AllocError> {
         let mut out = Text::new(self.alloc);
         add_html(&mut out, text);
         out.done()
     }
 
-    /// The text as it is shown by HTML, as code.
+    /// The text as code, escaped for HTML.
     pub fn code(&self, text: &str) -> Result<String, AllocError> {
         let mut out = Text::from_str(self.alloc, "<code>");
         add_html(&mut out, text);
@@ -56,7 +56,7 @@ impl Document {
     }
 }
 
-// The last part of the path of a file.
+// The last part of a file's path.
 fn name_of(file: &str) -> &str {
     match file.rsplit_once('/') {
         Some((_, name)) => name,
@@ -101,7 +101,7 @@ fn add_parts(
     add_log(document, space)
 }
 
-// What comes before the parts.
+// Adds the top of the page, before its parts.
 fn add_top(
     document: &mut Document,
     space: &Space,
@@ -115,7 +115,7 @@ fn add_top(
     Ok(())
 }
 
-// The head, with the style sheet in it.
+// Adds the head of the document, with the style sheet.
 fn add_head(document: &mut Document, name: &str) {
     document.say("<!doctype html>");
     document.say(META);

@@ -1,4 +1,4 @@
-//! Rows as objects of JSON, one a line.
+//! Rows as objects of JSON, one for each line.
 
 use crate::texts::{facts_of, json_text};
 use std::alloc::{AllocError, Global};
@@ -26,7 +26,7 @@ pub(crate) fn add_objects(
     Ok(())
 }
 
-// What stands in front of the members of a row.
+// The text before the members of a row.
 fn beginning(alloc: Global, relation: &Relation) -> Result<String, AllocError> {
     let name = json_text(alloc, relation.name.as_str())?;
     format!(in alloc; "{{\"relation\":{name},\"row\":{{")

@@ -1,4 +1,4 @@
-//! Relations as statements of SQL: a table for each, and one that names the unknowns.
+//! Relations as SQL statements: a table for each relation, and one table that names the unknowns.
 
 use crate::texts::facts_of;
 use std::alloc::{AllocError, Global};
@@ -11,7 +11,7 @@ use ws_written::{Column, Fact, Relation, Unknown, Value};
 const UNKNOWNS: &str =
     "CREATE TABLE yt_unknown (yt_relation TEXT, yt_row BIGINT, yt_column TEXT, yt_name TEXT);";
 
-// The statements: those of the tables, and those that name unknowns.
+// The statements: some make the tables, the others name unknowns.
 #[derive(Drop)]
 struct Script {
     alloc: Global,
@@ -165,7 +165,7 @@ fn add_cell(line: &mut Text, is_number: bool, value: &Value) {
     }
 }
 
-// A text between quotes, its own doubled.
+// Adds a text between quotes, with its own quotes doubled.
 fn add_text(line: &mut Text, text: &str) {
     line.push('\'');
     for (place, part) in text.split('\'').enumerate() {

@@ -1,4 +1,4 @@
-//! How a page looks: light or dark, as the reader has it.
+//! The style of a page: light or dark, as the reader prefers.
 
 /// The lines of the style sheet.
 pub(crate) const STYLE: [&str; 8] = [

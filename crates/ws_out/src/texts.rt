@@ -1,4 +1,4 @@
-//! The rows of a relation as they are said, and texts as JSON has them.
+//! The rows of a relation in the said form, and texts as JSON strings.
 
 use base_types::Memory;
 use serde_json::Value;
@@ -6,7 +6,7 @@ use std::alloc::{AllocError, Global};
 use ws_space::Space;
 use ws_written::Fact;
 
-/// The tuples of a relation as they are said, in order.
+/// The tuples of a relation in the said form, in order.
 pub(crate) fn facts_of(alloc: Global, space: &Space, relation: u32) -> Result<Vec<Fact>, Memory> {
     let rows = space.rows(alloc, relation)?;
     let mut facts = Vec::new(alloc);
@@ -16,12 +16,12 @@ pub(crate) fn facts_of(alloc: Global, space: &Space, relation: u32) -> Result<Ve
     Ok(facts)
 }
 
-/// The number of a relation by its place.
+/// The number of the relation at a place.
 pub(crate) fn relation_at(place: usize) -> u32 {
     u32::try_from(place).unwrap_or(u32::MAX)
 }
 
-/// A text between quotes, as JSON has it.
+/// The text as a JSON string.
 pub(crate) fn json_text(alloc: Global, text: &str) -> Result<String, AllocError> {
     Value::try_from_str(alloc, text)?.to_string(alloc)
 }

@@ -16,8 +16,8 @@ pub struct AskedNow {
     pub mapping: u16,
     /// The question, by names.
     pub question: Question,
-    /// The places of the candidates, in the order in which they are shown: those that share most values with what is known come
-    /// first.
+    /// The places of the candidates in the order in which they are shown: candidates that share most values with what is known
+    /// come first.
     pub ranked: Vec<usize>,
     /// Whether the update has an answer that does not fit any more.
     pub misfit: bool,

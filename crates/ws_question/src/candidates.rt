@@ -13,7 +13,7 @@ pub(crate) struct Candidate {
     pub text: String,
 }
 
-/// Candidates that contain a text: those that are shown, and the number of all.
+/// Candidates that contain a text: the candidates that are shown, and the number of all.
 #[derive(Drop)]
 pub(crate) struct Candidates {
     pub shown: Vec<Candidate>,

@@ -5,8 +5,9 @@ use std::alloc::Global;
 use std::collections::BTreeSet;
 use ws_run::Question;
 
-/// The places of the candidates. First come those that share most values with the image and with what the update did before it
-/// asked, without the values of the wanted tuple; then they go by number. If the question asks which tuples go, all go by number.
+/// The places of the candidates. First come the candidates that share most values with the image and with what the update did
+/// before it asked, without the values of the wanted tuple; then they go by number. If the question asks which tuples go, all go
+/// by number.
 pub(crate) fn ranked(alloc: Global, question: &Question) -> Result<Vec<usize>, Memory> {
     let known = known_values(alloc, question)?;
     let counts = counts_of(alloc, question, &known)?;

@@ -1,11 +1,11 @@
-//! What a change comes to.
+//! The outcome of a change.
 
 use crate::reports::Report;
 use std::alloc::{AllocError, Global};
 use ws_fault::{Refusal, Status};
 use ws_written::Line;
 
-/// What is told of a change, and its lines.
+/// The report of a change, and the lines to be recorded.
 #[derive(Drop)]
 pub struct Done {
     pub report: Report,
@@ -13,7 +13,7 @@ pub struct Done {
 }
 
 impl Done {
-    /// A change that has these lines, if there is memory for them.
+    /// A change with these lines. If they could not be made for want of memory, the change is refused.
     pub fn of(report: Report, lines: Result<Vec<Line>, AllocError>) -> Result<Done, Refusal> {
         match lines {
             Ok(lines) => Ok(Done { report, lines }),
@@ -24,7 +24,7 @@ impl Done {
         }
     }
 
-    /// A change that has no line.
+    /// A change without lines to be recorded.
     pub fn unrecorded(alloc: Global, report: Report) -> Done {
         Done {
             report,
@@ -32,13 +32,13 @@ impl Done {
         }
     }
 
-    /// A change that changes nothing, for this reason.
+    /// A change that changes nothing; `line` says why.
     pub fn nothing(alloc: Global, did: &'static str, line: String) -> Done {
         Done::unrecorded(alloc, Report::of(alloc, Status::Nothing, did, line))
     }
 }
 
-/// The change that has this line, if its report could be made.
+/// A change with this one line. If its report could not be made, the change is refused.
 pub fn recorded(
     alloc: Global,
     report: Result<Report, Refusal>,

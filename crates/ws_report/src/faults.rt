@@ -3,7 +3,7 @@
 use std::alloc::{AllocError, Global};
 use ws_fault::{Fault, Refusal, Status};
 
-/// A fault of this status; an empty hint is none.
+/// A fault of this status. An empty hint means that there is none.
 fn fault(alloc: Global, status: Status, words: &str, hint: &str) -> Result<Fault, AllocError> {
     let hint = if hint.is_empty() {
         None
@@ -19,22 +19,22 @@ fn fault(alloc: Global, status: Status, words: &str, hint: &str) -> Result<Fault
     })
 }
 
-/// That the change does not fit what is there; an empty hint is none.
+/// The fault that the change does not fit what is there. An empty hint means that there is none.
 pub(crate) fn refused(alloc: Global, words: &str, hint: &str) -> Result<Fault, AllocError> {
     fault(alloc, Status::Refused, words, hint)
 }
 
-/// That the steps did not suffice; an empty hint is none.
+/// The fault that the steps did not suffice. An empty hint means that there is none.
 pub fn spent(alloc: Global, words: &str, hint: &str) -> Result<Fault, AllocError> {
     fault(alloc, Status::Spent, words, hint)
 }
 
-/// Refuses a change that does not fit what is there; an empty hint is none.
+/// Refuses a change that does not fit what is there. An empty hint means that there is none.
 pub fn refuse<T: Drop>(alloc: Global, words: &str, hint: &str) -> Result<T, Refusal> {
     Err(Refusal::Fault(refused(alloc, words, hint)?))
 }
 
-/// The same, with further faults.
+/// Refuses a change that does not fit what is there, with further faults.
 pub fn refuse_with<T: Drop>(
     alloc: Global,
     words: &str,

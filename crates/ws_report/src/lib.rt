@@ -1,5 +1,5 @@
-//! What a change comes to: its report, as one value, and the reply of it as lines of text or as an object; its lines; the updates
-//! that are taken on the way, and the faults that refuse a change.
+//! The outcome of a change: its report, as one value; the reply made of it, as lines of text or as an object; the lines to be
+//! recorded; the updates that the change takes; and the faults that refuse a change.
 #![tactic(auto)]
 
 mod done;

@@ -1,11 +1,11 @@
-//! Hints that go with a reply.
+//! Hints that a reply has.
 
 use def_memory::Memory;
 use std::alloc::Global;
 use ws_json::{Items, Object};
 use ws_print::Text;
 
-/// A hint: its words, and commands that it proposes.
+/// A hint: its words, and the commands that it proposes.
 #[derive(Drop)]
 pub struct Note {
     pub words: String,
@@ -33,7 +33,7 @@ impl Note {
         Ok(line.done()?)
     }
 
-    /// Its words and its commands.
+    /// The object of the hint: its words and its commands.
     pub(crate) fn object(&self, alloc: Global) -> Object {
         let mut commands = Items::new(alloc);
         for command in self.commands.iter() {

@@ -42,7 +42,7 @@ impl Report {
         Ok(object)
     }
 
-    // The object of its question, if it has one.
+    // The object of the report's question, if it has one.
     fn asked(&self, alloc: Global, space: &Space) -> Result<Option<Object>, Memory> {
         match &self.question {
             Some(question) => Ok(Some(question_object(alloc, space, question, None, CANDIDATES)?)),
@@ -62,7 +62,7 @@ impl Report {
         );
     }
 
-    // What else is said, other updates, hints, and the updates of a change of several.
+    // Adds the lists: further lines, other updates, hints, and the updates of a change of several.
     fn add_lists(&self, alloc: Global, object: &mut Object) {
         if self.telling != Telling::Whole || !self.also.is_empty() {
             object.items("also", text_items(alloc, self.also.as_slice()));

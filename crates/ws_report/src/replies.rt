@@ -11,11 +11,11 @@ use ws_question::question_lines;
 use ws_reply::{Context, Kind, Reply};
 use ws_space::Space;
 
-/// The most candidates of a question that a change tells.
+/// The greatest number of a question's candidates that the reply to a change lists.
 pub const CANDIDATES: usize = 10;
 
 impl Report {
-    /// The reply, after the change was done over the workspace; `is_recorded` says whether a record of it follows.
+    /// The reply to a change that was done over the workspace; `is_recorded` says whether a record of it follows.
     pub fn reply(
         &self,
         alloc: Global,
@@ -37,7 +37,7 @@ impl Report {
         Ok(Reply::of_text(self.status, kind, lines))
     }
 
-    /// The same, if the report is of no use any more.
+    /// The reply, as `reply` makes it, for a report that is of no use any more.
     pub fn into_reply(
         self,
         alloc: Global,
@@ -93,13 +93,13 @@ fn add_notes(alloc: Global, lines: &mut Lines, notes: &[Note]) {
     }
 }
 
-// What may be said next.
+// The line of the commands that may follow.
 fn next_line(alloc: Global, next: &[String]) -> Result<String, Memory> {
     let next = joined(alloc, next, " | ")?;
     Ok(format!(in alloc; "next: {next}")?)
 }
 
-// The number of the last record, once the change has its own.
+// The number of the last record after the change has its own, if it gets one.
 fn at_after(space: &Space, context: &Context<'_>, is_recorded: bool) -> u32 {
     if is_recorded && !context.trying {
         return space.at().saturating_add(1);
@@ -114,7 +114,7 @@ fn add_again(alloc: Global, lines: &mut Lines, again: &[AgainTold]) {
     }
 }
 
-// The rows, with two blanks in front.
+// Adds the rows, with two blanks in front of each.
 fn add_indented(alloc: Global, lines: &mut Lines, rows: &[String]) {
     for row in rows {
         lines.made(format!(in alloc; "  {row}"));

@@ -1,4 +1,4 @@
-//! What is told of a change.
+//! The report of a change.
 
 use crate::notes::Note;
 use std::alloc::Global;
@@ -6,10 +6,10 @@ use ws_fault::Status;
 use ws_question::AskedNow;
 use ws_state::{Effect, FilledList, MovedList};
 
-/// How the lines of text tell what came, went and was filled. The object has it in each case.
+/// How the lines of text report what came, what went and what was filled. The object has all of it in each case.
 #[derive(Clone, Copy, PartialEq, Eq)]
 pub enum Telling {
-    /// Each of it, and by which mapping.
+    /// All of it, with the mapping of each tuple.
     Whole,
     /// What came and went.
     Brief,
@@ -17,14 +17,14 @@ pub enum Telling {
     Untold,
 }
 
-/// The updates of a change of several: those that are done, and those that wait.
+/// The updates of a change of several, split into done and waiting ones.
 #[derive(Drop)]
 pub struct Counted {
     pub numbers: Vec<u32>,
     pub waiting: Vec<u32>,
 }
 
-/// Another update that an undo or a redo changed: its number, how it stands now, and the words on it.
+/// Another update that an undo or a redo changed: its number, its status now, and the words about it.
 #[derive(Drop)]
 pub struct AgainTold {
     pub number: u32,
@@ -32,9 +32,8 @@ pub struct AgainTold {
     pub words: String,
 }
 
-/// What is told of a change: what it did, its line as it was done, the number of its update; what came, went and was
-/// filled; what else there is to say, the question that it asks, the other updates that it changed, hints, and what may
-/// be said next.
+/// The report of a change: what it did, its line as it was done, and the number of its update; what came, went and was filled;
+/// further lines, the question that it asks, the other updates that it changed, hints, and the commands that may follow.
 #[derive(Drop)]
 pub struct Report {
     pub status: Status,
@@ -52,12 +51,12 @@ pub struct Report {
 }
 
 impl Report {
-    /// That the line did this, and nothing else.
+    /// The report that the line did this, without an effect.
     pub fn of(alloc: Global, status: Status, did: &'static str, line: String) -> Report {
         Report::with_effect(alloc, status, did, line, no_effect(alloc))
     }
 
-    /// That the line did this, with this effect.
+    /// The report that the line did this, with this effect.
     pub fn with_effect(
         alloc: Global,
         status: Status,
@@ -81,7 +80,7 @@ impl Report {
         }
     }
 
-    /// That the update which the line did or answered asks.
+    /// The report that the update which the line said or answered asks a question.
     pub fn asking(
         alloc: Global,
         status: Status,
@@ -106,7 +105,7 @@ impl Report {
     }
 }
 
-/// Nothing came, went or was filled.
+/// The effect of nothing: no tuple came or went, and no unknown was filled.
 pub fn no_effect(alloc: Global) -> Effect {
     Effect {
         came: MovedList::new(alloc),

@@ -1,4 +1,4 @@
-//! What came, went and was filled, in lines.
+//! The lines for what came, what went and what was filled.
 
 use crate::reports::{Report, Telling};
 use crate::words::named_text;
@@ -10,10 +10,10 @@ use ws_question::{count_text, fact_text};
 use ws_space::Space;
 use ws_state::{Effect, Filled, Moved};
 
-/// The most tuples that lines tell.
+/// The greatest number of tuples that lines list.
 pub const MANY: usize = 20;
 
-/// `+ FACT`, and if it is by a mapping and that is to be told `   by MAPPING`.
+/// `SIGN FACT`, and after it `   by MAPPING` if a mapping caused the move and is to be printed.
 pub fn moved_row(
     alloc: Global,
     space: &Space,
@@ -101,7 +101,7 @@ fn brief_rows(alloc: Global, space: &Space, effect: &Effect) -> Result<Vec<Strin
     Ok(rows.done()?)
 }
 
-/// The lines on what came, went and was filled.
+/// The lines for what came, what went and what was filled.
 pub(crate) fn effect_rows(
     alloc: Global,
     space: &Space,

@@ -1,4 +1,4 @@
-//! Updates that are taken, one at a time.
+//! Taking updates, one at a time.
 
 use crate::faults::refuse;
 use crate::spending::spent_fault;
@@ -10,7 +10,7 @@ use ws_space::{Space, unknown_of};
 use ws_state::Told;
 use ws_written::{Line, NumberedUpdate, Update};
 
-/// An update that was taken: its number, its line, and why it waits, if it does.
+/// An update that was taken: its number, its line, and the reason if it waits.
 #[derive(Drop)]
 pub struct Taken {
     pub number: u32,
@@ -25,8 +25,7 @@ fn next_number(alloc: Global, space: &Space) -> Result<u32, Refusal> {
     }
 }
 
-/// Takes an update with the next number. It is refused if it names an unknown that is not there, or if its steps do not
-/// suffice.
+/// Takes an update under the next number. It is refused if it names an unknown that is not there, or if its steps do not suffice.
 pub fn take_update(
     alloc: Global,
     space: &mut Space,
@@ -71,8 +70,8 @@ fn take_numbered(
     }
 }
 
-// Takes the line of an update of this budget, and tells why it waits, if it does. It is refused if it names an unknown that
-// is not there, or if its steps do not suffice.
+// Takes the line of an update, and returns the reason if it waits. It is refused if it names an unknown that is not there, or if
+// its steps do not suffice.
 fn take_line(
     alloc: Global,
     space: &mut Space,
@@ -89,7 +88,7 @@ fn take_line(
     }
 }
 
-/// The line as a reply tells it: of an update without its number and its budget.
+/// The line as a reply prints it; an update stands without its number and its budget.
 pub fn told_line(alloc: Global, space: &Space, line: &Line) -> Result<String, AllocError> {
     let mut text = Text::new(alloc);
     let relations = space.relations.as_slice();

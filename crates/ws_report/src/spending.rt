@@ -10,7 +10,7 @@ use ws_space::Space;
 
 const MORE: &str = "more steps: --steps N, or ask whether the mappings go round for ever";
 
-/// The refusal of an update for which so many steps did not suffice, with what each mapping made in them.
+/// The refusal of an update for which `steps` steps did not suffice. It says how many tuples each mapping made in them.
 pub fn spent_fault(
     alloc: Global,
     space: &Space,
@@ -34,7 +34,7 @@ pub fn spent_fault(
     }))
 }
 
-// The mappings that made something, by their names, each with how many tuples it made.
+// The names of the mappings that made something, each with the number of tuples that it made.
 fn counts_of(alloc: Global, space: &Space, made: &MadeList) -> Result<Vec<(String, u32)>, Memory> {
     let mut counts = Vec::new(alloc);
     for one in made.as_slice() {
@@ -46,7 +46,7 @@ fn counts_of(alloc: Global, space: &Space, made: &MadeList) -> Result<Vec<(Strin
     Ok(counts)
 }
 
-// `NAME made N tuples`; a repair by the name of its mapping.
+// `NAME made N tuples`; a repair has the name of its mapping.
 fn count_words(alloc: Global, name: &str, tuples: u32) -> Result<String, Memory> {
     let name = name.strip_prefix("_fix_").unwrap_or(name);
     let tuples = count_text(alloc, tuples as usize, "tuple")?;

@@ -1,4 +1,4 @@
-//! Words of which replies are made.
+//! Texts that replies are made of.
 
 use base_types::Value;
 use def_memory::Memory;
@@ -7,7 +7,7 @@ use ws_print::{Text, add_fact, add_facts, add_ranges, add_value};
 use ws_space::Space;
 use ws_written::Fact;
 
-/// A tuple as a command takes it.
+/// A tuple in the form that commands take.
 pub fn said_text(alloc: Global, space: &Space, fact: &Fact) -> Result<String, Memory> {
     let mut text = Text::new(alloc);
     add_fact(&mut text, space.relations.as_slice(), fact);
@@ -21,7 +21,7 @@ pub fn facts_text(alloc: Global, space: &Space, facts: &[Fact]) -> Result<String
     Ok(text.done()?)
 }
 
-/// A value by its name, as a command takes it.
+/// The name of a value, in the form that commands take.
 pub fn named_text(alloc: Global, space: &Space, value: &Value) -> Result<String, Memory> {
     let said = space.value(alloc, value)?;
     let mut text = Text::new(alloc);
@@ -29,14 +29,14 @@ pub fn named_text(alloc: Global, space: &Space, value: &Value) -> Result<String,
     Ok(text.done()?)
 }
 
-/// The numbers; those that follow each other as `A..B`.
+/// The numbers as a text; numbers in a row become `A..B`.
 pub fn ranges_text(alloc: Global, numbers: &[u32]) -> Result<String, Memory> {
     let mut text = Text::new(alloc);
     add_ranges(&mut text, numbers);
     Ok(text.done()?)
 }
 
-/// The texts in one, with another between them.
+/// The texts as one, with `between` between them.
 pub fn joined(alloc: Global, texts: &[String], between: &str) -> Result<String, Memory> {
     let mut all = Text::new(alloc);
     for (place, text) in texts.iter().enumerate() {

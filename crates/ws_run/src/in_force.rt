@@ -10,7 +10,7 @@ use set_facts::IndexedFacts;
 use std::alloc::Global;
 use std::marker::Model;
 
-/// Mappings in force, and for each relation those that have an atom of it. Contracts see their rules.
+/// Mappings in force, and for each relation the mappings with an atom of it. Contracts see their rules.
 #[derive(Drop)]
 pub struct InForce<'a> {
     mappings: Mappings<'a>,

@@ -77,7 +77,7 @@ pub(crate) fn take_op(
     Ok(())
 }
 
-// Keeps the op's writes by names, without those of hidden relations.
+// Keeps the op's writes by names, except in hidden relations.
 fn keep_named(
     alloc: Global,
     names: &Names,

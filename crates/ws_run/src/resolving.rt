@@ -26,7 +26,7 @@ pub(crate) fn found_null(ground: &Ground, name: Null) -> Result<Null, Halt> {
     Err(Halt::Left(Reason::NotThere(name)))
 }
 
-// Whether some tuple has the null. It is enough to search as many columns of a relation as its first tuple has.
+// Whether some tuple has the null. It is enough to search the columns that the relation's first tuple has.
 fn stands_in(facts: &IndexedFacts, null: Null) -> bool {
     let value = Value::Null(null);
     (0..=FIX).any(|relation| stands_in_relation(facts, relation, &value))

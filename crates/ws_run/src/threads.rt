@@ -40,7 +40,7 @@ pub struct Op {
 pub type OpList = List<Op>;
 
 /// What a run keeps: the update's table, the places given in this run, the number of answers that it took, its steps and ops, and
-/// their writes, by names, without those of hidden relations.
+/// their writes, by names, except in hidden relations.
 #[derive(Drop)]
 pub struct Thread {
     pub places: Places,

@@ -1,4 +1,4 @@
-//! What is accepted: its record is appended before its reply is given.
+//! Accepting a change: its record is appended before its reply is given.
 ghost use Rattle.std.specs.Prelude.{◌++◌, ◌∷◌, [], ℕ, List, IfOk};
 ghost use Rattle.ws_file.specs.Files.{state_of};
 ghost use Rattle.ws_seal.specs.Logs.{IsHeld};
@@ -13,7 +13,7 @@ use ws_reply::{Outcome, Reply};
 use ws_space::Space;
 use ws_written::{Line, Record, SaidLine, Stamp};
 
-/// Who says something, and when.
+/// The stamp of what is said: who says it, and when.
 pub(crate) fn stamp_of(alloc: Global, time: &str, curator: &str) -> Result<Stamp, Memory> {
     Ok(Stamp {
         time: String::from_str(alloc, time)?,
@@ -21,7 +21,7 @@ pub(crate) fn stamp_of(alloc: Global, time: &str, curator: &str) -> Result<Stamp
     })
 }
 
-// The lines as they are said, the first of them with this comment.
+// The lines as they are said; the first one has the comment.
 fn said_lines(alloc: Global, lines: Vec<Line>, comment: &str) -> Result<Vec<SaidLine>, Memory> {
     let mut said = Vec::new(alloc);
     let _ = said.reserve_exact(lines.len());
@@ -51,7 +51,7 @@ fn add_said(
     }
 }
 
-// The text of a record over the relations of a workspace that has it.
+// The text of a record, over the relations of the workspace after it.
 fn text_of(alloc: Global, space: &Space, record: &Record) -> Result<Vec<u8>, Memory> {
     let mut text = Text::new(alloc);
     add_record(&mut text, space.relations.as_slice(), record);
@@ -82,7 +82,7 @@ fn keep(
 }
 
 impl Session {
-    /// Records what a change came to, and gives its reply. At `Ok` the record, if there is one, is acknowledged.
+    /// Records the lines of a change, and returns its reply. At `Ok` the record, if there is one, is acknowledged.
     pub(crate) fn accept(
         &mut self,
         alloc: Global,
@@ -94,7 +94,7 @@ impl Session {
         if lines.is_empty() {
             return Ok(reply);
         }
-        // What takes memory comes before the append, since nothing may be refused after it.
+        // All that may fail for want of memory comes before the append; after the append, nothing may fail.
         match self.record(alloc, lines, time, comment) {
             Ok(()) => self.append(alloc, reply),
             Err(memory) => {
@@ -104,8 +104,8 @@ impl Session {
         }
     }
 
-    /// Keeps the record of these lines, the first of which was said with this comment, and its text. If memory runs out, what was
-    /// read is of no use any more.
+    /// Keeps the record of these lines and its text; the comment belongs to the first line. If memory runs out, what was read is
+    /// of no use any more.
     pub(crate) fn record(
         &mut self,
         alloc: Global,
@@ -142,7 +142,7 @@ impl Session {
 }
 
 impl Texts {
-    // Appends the last text to the log in hand, and gives the reply back.
+    // Appends the last text to the log in hand, and returns the reply.
     fn append(&mut self, alloc: Global, reply: Reply) -> Result<Reply, Fault> {
         let (Some(log), Some(text)) = (self.log.take(), self.texts.last()) else {
             drop(reply);
@@ -154,7 +154,7 @@ impl Texts {
     }
 }
 
-// Appends the text, and gives the reply back: so no reply is given before the text is acknowledged.
+// Appends the text, and returns the reply: so no reply is given before the text is acknowledged.
 fn told(alloc: Global, log: OpenLog, text: &[u8], reply: Reply) -> Result<(OpenLog, Reply), Fault>
     ensures acknowledged { (before m : List ℕ) (texts : List (List ℕ))
         → IsHeld before m texts (state_of log.disk) log.gate log.mark

@@ -16,7 +16,7 @@ use ws_reply::{Kind, Outcome, Reply};
 use ws_space::{Opening, Point, Space};
 
 impl Speaker {
-    /// What a command comes to over the workspace in memory, of which these are the texts. It is refused if it is not allowed.
+    /// Does a command over the workspace in memory, which was made of `texts`. It is refused if it is not allowed.
     pub(crate) fn command(
         &mut self,
         rt: &HostRuntime,
@@ -79,7 +79,7 @@ impl Speaker {
         }
     }
 
-    /// What a change comes to over the workspace in memory.
+    /// Does a change over the workspace in memory.
     pub(crate) fn change(
         &mut self,
         rt: &HostRuntime,
@@ -98,7 +98,7 @@ impl Speaker {
         }
     }
 
-    // Says in the workspace who speaks and when, and keeps what it may have to go back to.
+    // Tells the workspace who speaks and when, and keeps a point to go back to if further commands may come.
     fn make_ready(&mut self, alloc: Global, time: &str, space: &mut Space) -> Result<(), Memory> {
         space.say_as(alloc, time, self.settings.curator.as_str())?;
         let point = point_of(alloc, space, self.settings.stays)?;
@@ -130,7 +130,7 @@ impl Speaker {
         }
     }
 
-    // What a change that is no `load` comes to.
+    // Does a change that is no `load`.
     fn change_since(
         &mut self,
         alloc: Global,
@@ -152,7 +152,7 @@ impl Speaker {
         )
     }
 
-    // The workspace after the record of `--at`, if that is not the last one.
+    // The workspace after the record of `--at`; None if there is no `--at`, or if its record is the last, folded or not there.
     fn past(
         &self,
         alloc: Global,
@@ -175,7 +175,7 @@ impl Speaker {
     }
 }
 
-// What the workspace goes back to if what is done in memory is not recorded, if further commands may come.
+// The point to go back to if what is done in memory is not recorded; None unless further commands may come.
 fn point_of(alloc: Global, space: &Space, stays: bool) -> Result<Option<Point>, Memory> {
     if stays {
         return Ok(Some(space.point(alloc)?));

@@ -1,4 +1,4 @@
-//! A command: read, done over the workspace in memory, and accepted.
+//! A command: it is read, done over the workspace in memory, and accepted.
 
 use crate::failing::{fault, fault_reply};
 use crate::leaving::Done;
@@ -13,7 +13,7 @@ use ws_log::Access;
 use ws_reply::Reply;
 use ws_space::Space;
 
-/// A line that is to be done: when it is said, its number in a script, and what of standard input belongs to it.
+/// A line to be done: its time, its number in a script, and the part of standard input that belongs to it.
 #[derive(Clone, Copy)]
 pub struct Turn<'a> {
     pub line: &'a str,
@@ -23,7 +23,7 @@ pub struct Turn<'a> {
 }
 
 impl Session {
-    /// The reply to a line; None if it is blank or a comment.
+    /// Does a line, and returns its reply; None if the line is blank or a comment.
     pub fn command(&mut self, rt: &HostRuntime, turn: &Turn<'_>) -> Result<Option<Reply>, Memory> {
         if is_blank(turn.line) {
             return Ok(None);
@@ -53,7 +53,7 @@ impl Session {
         }
     }
 
-    // What the line comes to over the workspace in memory; nothing is written.
+    // Does the line over the workspace in memory; nothing is written.
     fn done(&mut self, rt: &HostRuntime, turn: &Turn<'_>) -> Result<Done, Refusal> {
         let Some(space) = &mut self.space else {
             return Err(Refusal::Memory);
@@ -67,7 +67,7 @@ impl Session {
         }
     }
 
-    // Writes what is to be written, frees the file, and gives the reply. After a fault nothing that was read is kept.
+    // Writes what is to be written, frees the file, and returns the reply. After a fault, nothing that was read is kept.
     fn finish(
         &mut self,
         rt: &HostRuntime,
@@ -105,7 +105,7 @@ impl Session {
 }
 
 impl Speaker {
-    // The reply that tells a fault.
+    // The reply for a fault.
     fn faulty(
         &self,
         alloc: Global,
@@ -117,7 +117,7 @@ impl Speaker {
     }
 }
 
-/// The command of a line over the names of a workspace; None if it is blank.
+/// Reads the command of a line with the names of a workspace; None if the line is blank.
 pub(crate) fn read_over(alloc: Global, space: &Space, line: &str) -> Result<Option<Said>, Refusal> {
     let mappings = space.mapping_names(alloc)?;
     let names = Names {
@@ -137,14 +137,14 @@ fn ends_word(letter: char) -> bool {
     !letter.is_ascii_alphabetic() && letter != '_'
 }
 
-// The verb that is the first word of a line, if it is one.
+// The verb that is the first word of a line; None if it is no verb.
 fn verb_of(line: &str) -> Option<Verb> {
     let rest = line.trim_start();
     let end = rest.find(ends_word);
     Verb::of(rest.get(..end.unwrap_or(rest.len())).unwrap_or(rest))
 }
 
-// How the file is locked for a line: for a change, if its verb is that of one.
+// How the file is locked for a line: for a change if its verb is that of a change, else for reading.
 fn access_of(verb: Option<Verb>) -> Access {
     match verb {
         Some(verb) if verb.changes() => Access::Change,
@@ -152,7 +152,7 @@ fn access_of(verb: Option<Verb>) -> Access {
     }
 }
 
-// Whether the log is told.
+// Whether the verb prints the log.
 fn tells_log(verb: Option<Verb>) -> bool {
     verb == Some(Verb::Log) || verb == Some(Verb::Page)
 }

@@ -1,4 +1,4 @@
-//! Faults: those of the file in words, and how a fault is told.
+//! The faults of the file in words, and the replies for faults.
 
 use crate::sessions::Speaker;
 use std::alloc::{AllocError, Global};
@@ -9,7 +9,7 @@ use ws_log::{Damage, Fault as LogFault, reason};
 use ws_print::{Lines, Text, add_fault};
 use ws_reply::{Form, Kind, Reply};
 
-/// A fault of these words, without a place.
+/// A fault with these words and without a place.
 pub(crate) fn fault(alloc: Global, status: Status, words: String, hint: Option<String>) -> Fault {
     Fault {
         status,
@@ -20,7 +20,7 @@ pub(crate) fn fault(alloc: Global, status: Status, words: String, hint: Option<S
     }
 }
 
-/// A refusal in these words, unless there was no memory for them.
+/// A refusal with these words; want of memory if the words could not be made.
 pub(crate) fn refused(alloc: Global, status: Status, words: Result<String, AllocError>) -> Refusal {
     match words {
         Ok(words) => Refusal::Fault(fault(alloc, status, words, None)),
@@ -28,7 +28,7 @@ pub(crate) fn refused(alloc: Global, status: Status, words: Result<String, Alloc
     }
 }
 
-/// `cannot read P: REASON`, or another verb; want of memory if that is why.
+/// The refusal `cannot read P: REASON`, or with another verb; want of memory if that is the reason.
 pub(crate) fn cannot(
     alloc: Global,
     status: Status,
@@ -74,14 +74,14 @@ impl Speaker {
         format!(in alloc; "{name} is in use: waited {seconds} seconds")
     }
 
-    /// The fault of a text that is no head or record, by its place among the texts.
+    /// The fault that the text at this place is neither a head nor a record.
     pub(crate) fn unread(&self, alloc: Global, place: usize) -> Refusal {
         let name = self.name.as_str();
         let words = format!(in alloc; "{name} is damaged: record {place} cannot be read");
         refused(alloc, Status::Damaged, words)
     }
 
-    /// That there is no file.
+    /// The refusal that there is no file.
     pub(crate) fn no_file(&self, alloc: Global) -> Refusal {
         match self.absent(alloc) {
             Ok(fault) => Refusal::Fault(fault),
@@ -115,13 +115,13 @@ fn damaged(alloc: Global, name: &str, damage: Damage) -> Result<String, AllocErr
     }
 }
 
-/// That a line is not UTF-8 from its byte of this number on, from 1.
+/// The fault that a line is not UTF-8; `number` is its first wrong byte, counted from 1.
 pub fn not_utf8(alloc: Global, number: usize) -> Result<Fault, AllocError> {
     let words = format!(in alloc; "the line is not UTF-8, at byte {number} of it")?;
     Ok(fault(alloc, Status::Unread, words, None))
 }
 
-/// A fault of a line as a reply; in a script the line has a number.
+/// A fault of a line as a reply; `number` is the line's number in a script.
 pub fn fault_reply(
     alloc: Global,
     form: Form,

@@ -12,7 +12,7 @@ use ws_print::Lines;
 use ws_reply::{Form, Kind, Reply};
 use ws_space::Space;
 
-/// What a fold comes to: the text of the new head, unless there is nothing to fold.
+/// Prepares a fold: makes the text of the new head, unless there is nothing to fold.
 pub(crate) fn fold_over(alloc: Global, space: &Space, form: Form) -> Result<Done, Refusal> {
     if space.state.order().len() == 0 && space.records.is_empty() {
         let did = Did {
@@ -32,7 +32,7 @@ pub(crate) fn fold_over(alloc: Global, space: &Space, form: Form) -> Result<Done
     Ok(Done::Folded(head, reply(alloc, form, space.at(), did)?))
 }
 
-// What a fold did: its status, the word for it, and what else there is to say.
+// What a fold did: its status, the word for it, and a further line.
 #[derive(Clone, Copy)]
 struct Did<'a> {
     status: Status,
@@ -86,7 +86,7 @@ fn object(alloc: Global, at: u32, did: Did<'_>) -> Object {
 }
 
 impl Session {
-    /// Puts the head in the place of the log, and gives the reply. What the workspace was made of is freed.
+    /// Puts the head in place of the log, and returns the reply. The workspace in memory is dropped.
     pub(crate) fn fold(
         &mut self,
         rt: &HostRuntime,
@@ -106,7 +106,7 @@ impl Session {
     }
 
     fn fold_file(&mut self, rt: &HostRuntime, head: Vec<u8>) -> Result<(), Fault> {
-        // Nothing may be refused after the fold.
+        // After the fold, nothing may fail.
         let mut texts = Vec::new(rt.alloc());
         if texts.push(head).is_err() {
             return Err(Fault::Memory);
@@ -119,7 +119,7 @@ impl Session {
     }
 }
 
-// The log of the head alone, which is the only one of the texts.
+// The log of the head alone, which is the only text.
 fn folded_to(
     rt: &HostRuntime,
     path: &str,

@@ -1,4 +1,4 @@
-//! Each change by its kind.
+//! The changes, each by its kind.
 
 use def_memory::Memory;
 use std::alloc::Global;
@@ -12,11 +12,11 @@ use ws_report::{Done, Report, refuse};
 use ws_space::Space;
 use ws_tuples::{delete, fill, insert, replace};
 
-/// Does the change over the workspace, and tells of it. `past` is the workspace as it was after the record of `--at`, if that
-/// is not the last one and was not folded.
+/// Does the change over the workspace, and makes its reply. `past` is the workspace after the record of `--at`, unless that
+/// record is the last one or was folded.
 ///
-/// It is refused if the change does not fit the workspace, or if its steps do not suffice. The space is then of no use if it took
-/// a line.
+/// It is refused if the change does not fit the workspace, or if its steps do not suffice. If the space took a line by then, it
+/// is of no use any more.
 pub fn change(
     alloc: Global,
     space: &mut Space,
@@ -60,7 +60,7 @@ fn answered(
     }
 }
 
-// A change that is no answer.
+// Does a change that is no answer.
 fn done_alone(alloc: Global, space: &mut Space, change: Change) -> Result<Done, Refusal> {
     match change {
         Change::Relation(relation) => declare_relation(alloc, space, relation),
@@ -78,7 +78,7 @@ fn done_alone(alloc: Global, space: &mut Space, change: Change) -> Result<Done, 
     }
 }
 
-// What the change comes to: its question is shown, and its reply is made.
+// Notes that the question of the change is shown, and makes its reply.
 fn outcome(
     alloc: Global,
     space: &Space,
@@ -95,7 +95,7 @@ fn outcome(
     }
 }
 
-// The change with its reply.
+// The lines of the change with its reply.
 fn replied(
     alloc: Global,
     space: &Space,
@@ -112,7 +112,7 @@ fn replied(
     }
 }
 
-// The question of a change that is not only tried is shown.
+// Notes that the question is shown, unless the change was only tried.
 fn show(shown: &mut Shown, context: &Context<'_>, report: &Report) -> Result<(), Memory> {
     match &report.question {
         Some(asked) if !context.trying => shown.put(asked),

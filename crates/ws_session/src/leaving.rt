@@ -1,4 +1,4 @@
-//! What a command comes to before anything is written, and what it may not do.
+//! What a command leads to before anything is written, and the commands that are not allowed.
 
 use crate::failing::refused;
 use crate::sessions::Settings;
@@ -7,7 +7,7 @@ use ws_command::{Change, Command, Export, Look, Source};
 use ws_fault::{Refusal, Status};
 use ws_reply::{Outcome, Reply};
 
-/// What a command comes to over the workspace in memory.
+/// What a command leads to over the workspace in memory.
 #[derive(Drop)]
 pub(crate) enum Done {
     /// The line was blank.
@@ -20,8 +20,8 @@ pub(crate) enum Done {
     Folded(Vec<u8>, Reply),
 }
 
-/// Refuses a command that reads or writes another file, if files are closed; and one that wants the log to be at another record
-/// than it is.
+/// Refuses a command that reads or writes another file if files are closed, and a command that expects the log at another record
+/// than it is at.
 pub(crate) fn allowed(
     alloc: Global,
     settings: &Settings,

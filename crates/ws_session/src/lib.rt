@@ -1,9 +1,9 @@
-//! A session over a workspace's file: each command reads what is new in it, is done over the workspace in memory, and appends one
-//! record, before its reply is told.
+//! A session over a workspace's file. Each command reads what is new in the file, is done over the workspace in memory, and
+//! appends one record before its reply is given.
 //!
-//! `Session::command` answers the reply to a line. A reply to a change is given only after its record is acknowledged; a change that
-//! is refused leaves the file as it was. A session keeps what it has read, so that a command costs what is new; a workspace in
-//! memory in which something was tried is let go, and opened anew from its texts.
+//! `Session::command` returns the reply to a line. A reply to a change is given only after its record is acknowledged; a refused
+//! change leaves the file as it was. A session keeps what it has read, so that a command costs only what is new. What was only
+//! tried in memory is taken back; if that is not possible, the file is read again.
 #![tactic(auto)]
 
 mod accepting;

@@ -12,7 +12,7 @@ use ws_print::{Text, add_count};
 use ws_reply::{Context, Outcome};
 use ws_space::Space;
 
-/// What of standard input belongs to a line, and how many lines it is; 0 if all of it does.
+/// The part of standard input that belongs to a line, and its number of lines; 0 if all of the input belongs to it.
 #[derive(Drop)]
 pub struct Fed {
     pub bytes: Vec<u8>,
@@ -21,7 +21,7 @@ pub struct Fed {
 
 const INPUT: &str = "standard input";
 
-/// What a `load` comes to over the workspace in memory.
+/// Does a `load` over the workspace in memory.
 pub(crate) fn loaded(
     rt: &HostRuntime,
     settings: &Settings,
@@ -53,7 +53,7 @@ pub(crate) fn loaded(
     loaded_over(alloc, space, context, load, input)
 }
 
-// The file that has the rows, if one does.
+// The path of the file with the rows; None if they are in standard input.
 fn file_of(load: &Load) -> Option<&str> {
     match &load.source {
         Source::File(path) if path.as_str() != "-" => Some(path.as_str()),
@@ -61,7 +61,7 @@ fn file_of(load: &Load) -> Option<&str> {
     }
 }
 
-// What of standard input has the rows.
+// The part of standard input with the rows. It is refused if there is none, or if it has too few lines.
 fn fed_for<'a>(alloc: Global, load: &Load, fed: Option<&'a Fed>) -> Result<&'a Fed, Refusal> {
     let Some(fed) = fed else {
         let name = load.relation.as_str();

@@ -1,4 +1,4 @@
-//! Looks at a workspace in memory, and what they write.
+//! Looks at a workspace in memory, and the texts that they write.
 
 use crate::commands::Turn;
 use crate::leaving::Done;
@@ -13,7 +13,7 @@ use ws_reply::Reply;
 use ws_space::Space;
 
 impl Speaker {
-    /// What a look tells, or writes to a file.
+    /// Does a look; its text goes into the reply, or to a file.
     pub(crate) fn look_once(
         &mut self,
         rt: &HostRuntime,

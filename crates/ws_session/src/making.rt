@@ -1,4 +1,4 @@
-//! A file that is made by its first command.
+//! Making the file by its first command.
 
 use crate::accepting::stamp_of;
 use crate::changing::quit;
@@ -17,7 +17,7 @@ use ws_reply::{Outcome, Reply};
 use ws_space::Space;
 
 impl Session {
-    /// The answer to a line if there is no file: one that makes it, help, or that there is none.
+    /// The reply to a line if there is no file: the line makes the file, asks for help, or gets the fault that there is none.
     pub(crate) fn answer_without(
         &mut self,
         rt: &HostRuntime,
@@ -40,7 +40,7 @@ impl Session {
         }
     }
 
-    // A workspace of which nothing was said.
+    // Begins an empty workspace.
     fn begin(&mut self, alloc: Global, time: &str) -> Result<(), Memory> {
         let stamp = stamp_of(alloc, time, self.speaker.settings.curator.as_str())?;
         let space = Space::fresh(alloc, stamp)?;
@@ -48,7 +48,7 @@ impl Session {
         Ok(())
     }
 
-    // The answer to a command if there is no file.
+    // The reply to a command if there is no file.
     fn first_said(
         &mut self,
         rt: &HostRuntime,
@@ -68,7 +68,7 @@ impl Session {
         }
     }
 
-    // The reply to a command that wants no file. It is refused if the command is not allowed, or if it wants a file.
+    // The reply to a command that needs no file; None if the command makes the file. Any other is refused, as is one not allowed.
     fn told_without(
         &self,
         alloc: Global,
@@ -87,7 +87,7 @@ impl Session {
         }
     }
 
-    // The answer to the change that makes the file.
+    // The reply to the change that makes the file.
     fn first_change(
         &mut self,
         rt: &HostRuntime,
@@ -147,7 +147,7 @@ impl Session {
         }
     }
 
-    // Makes the file with what was kept and the record of the change. Nothing is refused after that.
+    // Makes the file with the texts that were kept and the record of the change. Nothing may fail after that.
     fn made(
         &mut self,
         rt: &HostRuntime,

@@ -8,8 +8,8 @@ use ws_log::{Access, Fault, Opened, Reopened, RestingLog, open, reopen};
 use ws_space::{Opening, Point, Space};
 
 impl Session {
-    /// Locks the file and reads what is new; false if there is none. What was read is in memory then, and the log in hand. If
-    /// neither a line that may come nor this one tells the log, its lines need not be kept.
+    /// Locks the file and reads what is new; false if there is no file. At `Ok(true)` the workspace is in memory and the log is
+    /// in hand. The lines of the log are kept only if `tells_log` says so or further lines may come.
     pub(crate) fn open(
         &mut self,
         rt: &HostRuntime,
@@ -69,7 +69,7 @@ impl Session {
         self.file.hold(log);
     }
 
-    // The workspace of all texts that were read.
+    // Makes the workspace of all texts that were read, or adds what is new to it.
     fn build(&mut self, alloc: Global, tells_log: bool) -> Result<(), Refusal> {
         let fault = match self.read_texts(alloc, tells_log) {
             Ok(()) => return Ok(()),
@@ -94,7 +94,7 @@ impl Session {
         Ok(())
     }
 
-    /// Whether something waits in the file; also if it cannot be read.
+    /// Whether an update waits in the file. It is also true if there is no file, or if it cannot be read.
     pub fn waits(&mut self, rt: &HostRuntime) -> bool {
         let Ok(true) = self.open(rt, Access::Read, true) else {
             return true;
@@ -107,14 +107,15 @@ impl Session {
         waits
     }
 
-    /// Frees the lock. What was read is kept, unless no log is in hand or the file could not be freed.
+    /// Frees the lock. What was read is kept, unless no log is in hand, the lock could not be freed, or the workspace cannot go
+    /// back.
     pub(crate) fn rest(&mut self, alloc: Global) {
         if !self.file.rest() || !self.is_back(alloc) {
             self.forget(alloc);
         }
     }
 
-    // Whether the workspace has what is recorded and nothing else; what was done in memory alone is taken back.
+    // Whether the workspace has exactly what is recorded. What was done in memory alone is taken back, if there is a point.
     fn is_back(&mut self, alloc: Global) -> bool {
         let point = self.speaker.point.take();
         match &mut self.space {
@@ -128,7 +129,7 @@ impl Session {
 }
 
 impl Texts {
-    // Keeps the log, and the texts that are new.
+    // Keeps the log, and adds the new texts.
     fn keep(&mut self, opened: Opened) -> Result<(), Fault> {
         let Opened { log, texts } = opened;
         self.hold(log);
@@ -145,7 +146,7 @@ impl Texts {
         Ok(())
     }
 
-    // Whether the log is at rest now, its lock freed.
+    // Frees the lock. Returns whether the log is at rest now.
     fn rest(&mut self) -> bool {
         let Some(log) = self.log.take() else {
             return false;
@@ -160,7 +161,7 @@ impl Texts {
     }
 }
 
-// Does what the texts say that the workspace has not got yet.
+// Takes the records among the texts that the workspace does not have yet.
 fn read_new(alloc: Global, space: &mut Space, texts: &[Vec<u8>]) -> Result<(), Opening> {
     let first = space.records.len().saturating_add(1);
     let new = texts.get(first..).unwrap_or(&[]);

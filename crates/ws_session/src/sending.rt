@@ -1,4 +1,4 @@
-//! A text that is told, or written to a file; a database that is made of one.
+//! Texts in a reply or in a file, and a database made of a text.
 
 use crate::failing::{cannot, refused};
 use crate::sessions::{Settings, called};
@@ -14,7 +14,7 @@ use ws_print::{Lines, Text, add_escaped};
 use ws_reply::{Form, Kind, Reply};
 use ws_sqlite::write_database;
 
-/// Writes the lines to the file, if there is one, and tells that; or tells them.
+/// Writes the lines to the file, if there is one, and says so in the reply; else the reply has the lines.
 pub(crate) fn sent(
     rt: &HostRuntime,
     settings: &Settings,
@@ -33,7 +33,7 @@ pub(crate) fn sent(
     }
 }
 
-/// Makes a database of the statements in the file of `--sqlite`, and tells that; other forms are sent.
+/// Makes a database of the statements in the file of `--sqlite`, and says so in the reply. Other exports are sent.
 pub(crate) fn exported(
     rt: &HostRuntime,
     settings: &Settings,
@@ -50,7 +50,7 @@ pub(crate) fn exported(
     }
 }
 
-// The text of the lines for the file, which is not to be the workspace.
+// The text of the lines for the file. It is refused if the file is the workspace.
 fn text_for(
     rt: &HostRuntime,
     settings: &Settings,
@@ -65,7 +65,7 @@ fn text_for(
     Ok(joined(rt.alloc(), lines)?)
 }
 
-// Whether the path leads to the file of the workspace, in whatever words.
+// Whether the path leads to the workspace's file, however it is spelled.
 fn is_workspace(rt: &HostRuntime, settings: &Settings, path: &str) -> bool {
     match (
         fs::metadata(rt, settings.path.as_str()),
@@ -76,7 +76,7 @@ fn is_workspace(rt: &HostRuntime, settings: &Settings, path: &str) -> bool {
     }
 }
 
-// The lines, each with a line feed; a line feed if there is none.
+// The lines as one text, each with a line feed; one line feed if there are no lines.
 fn joined(alloc: Global, lines: &[String]) -> Result<String, AllocError> {
     let mut text = Text::new(alloc);
     for (place, line) in lines.iter().enumerate() {
@@ -97,7 +97,7 @@ fn told(alloc: Global, form: Form, kind: &str, lines: Vec<String>) -> Result<Rep
     Ok(one(alloc, kind, "text", text.as_str())?)
 }
 
-// That the file is written, or why it is not.
+// The reply that the file is written, or the refusal with the reason why it is not.
 fn wrote(
     alloc: Global,
     settings: &Settings,
@@ -125,7 +125,7 @@ fn file_told(alloc: Global, form: Form, path: &str) -> Result<Reply, Memory> {
     Ok(Reply::of_text(Status::Done, Kind::Look, lines.done()?))
 }
 
-// The reply of an object of this kind that has one text.
+// The reply with an object of this kind that has one text.
 fn one(alloc: Global, kind: &str, key: &str, text: &str) -> Result<Reply, AllocError> {
     let mut object = Object::new(alloc);
     object.text("reply", kind);

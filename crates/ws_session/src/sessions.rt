@@ -1,4 +1,4 @@
-//! A session, and what it is over.
+//! A session, and its settings.
 
 use std::alloc::{AllocError, Global};
 use std::mem;
@@ -8,8 +8,8 @@ use ws_question::Shown;
 use ws_reply::{Context, Form};
 use ws_space::{Point, Space};
 
-/// What a session is over: the file, who speaks, for how many seconds another process may have the file, how replies are told,
-/// whether no other file is read or written, and whether further commands may come.
+/// The settings of a session: the file; who speaks; the number of seconds to wait for the file; the form of replies; whether
+/// other files are closed; and whether further commands may come.
 #[derive(Drop)]
 pub struct Settings {
     pub path: String,
@@ -20,7 +20,7 @@ pub struct Settings {
     pub stays: bool,
 }
 
-/// A session: who speaks, what was read of the file, and the workspace of it, as far as it is at hand.
+/// A session: who speaks, what was read of the file, and its workspace, if it is in memory.
 #[derive(Drop)]
 pub struct Session {
     pub(crate) speaker: Speaker,
@@ -33,14 +33,14 @@ pub struct Session {
 #[derive(Drop)]
 pub(crate) struct Speaker {
     pub settings: Settings,
-    // What faults call the file.
+    // The name of the file in faults.
     pub name: String,
     pub shown: Shown,
-    // What the workspace goes back to if what is done in memory is not recorded.
+    // The point to go back to if what is done in memory is not recorded.
     pub point: Option<Point>,
 }
 
-/// The texts of the file that were read, the head first, and the log: in hand while a command is done, else at rest.
+/// The texts read from the file, the head first, and the log: in hand while a command is done, else at rest.
 #[derive(Drop)]
 pub(crate) struct Texts {
     pub texts: Vec<Vec<u8>>,
@@ -64,7 +64,7 @@ impl Session {
         })
     }
 
-    /// Frees all that was read.
+    /// Drops all that was read.
     pub(crate) fn forget(&mut self, alloc: Global) {
         drop(mem::replace(&mut self.file, Texts::none(alloc)));
         drop(self.space.take());
@@ -73,7 +73,7 @@ impl Session {
 }
 
 impl Texts {
-    /// Nothing was read.
+    /// No texts: nothing was read.
     pub(crate) fn none(alloc: Global) -> Texts {
         Texts {
             texts: Vec::new(alloc),
@@ -89,18 +89,18 @@ impl Texts {
 }
 
 impl Speaker {
-    /// How long another process may have the file.
+    /// How long to wait for the file if another process has it.
     pub(crate) fn wait(&self) -> Duration {
         Duration::from_secs(u64::from(self.settings.wait))
     }
 
-    /// Whom a command is done for, when, and how its reply is told.
+    /// The context of a command: who speaks, when, and the form of its reply.
     pub(crate) fn context<'a>(&'a self, time: &'a str, trying: bool) -> Context<'a> {
         context_of(&self.settings, self.name.as_str(), time, trying)
     }
 }
 
-/// Whom a command is done for, when, and how its reply is told; faults call the file by this name.
+/// The context of a command: who speaks, when, and the form of its reply. `name` is the file's name in faults.
 pub(crate) fn context_of<'a>(
     settings: &'a Settings,
     name: &'a str,
@@ -116,7 +116,7 @@ pub(crate) fn context_of<'a>(
     }
 }
 
-/// What faults call a file: its last part if replies are objects, so that no folder is told.
+/// The name of a file in faults: the path, or its last part if replies are objects, so that no folder is shown.
 pub(crate) fn called<'a>(settings: &Settings, path: &'a str) -> &'a str {
     if settings.form == Form::Text {
         return path;

@@ -17,7 +17,7 @@ pub(crate) fn number_of(rules: &[Rule], name: &str) -> Option<u16> {
     None
 }
 
-/// The source with this name: `_new`, `_fix_m`, or a mapping's name. None if there is no such mapping.
+/// The source with this name: `_new`, `_fix_m`, or a mapping's name. None if no mapping has the name.
 pub(crate) fn source_of(rules: &[Rule], name: &str) -> Option<Source> {
     if name == "_new" {
         return Some(Source::Anew);

@@ -1,4 +1,4 @@
-//! A file is filled by a script.
+//! Filling a file by a script.
 ghost use Rattle.sqlite.specs.State.{HasCleanDisk};
 ghost use Rattle.sqlite.specs.Held.{state};
 ghost use Rattle.sqlite.specs.Batch.{ExecutesAll};
@@ -9,10 +9,10 @@ use std::fs::OpenOptions;
 use std::io::{self, ErrorKind};
 use std::os::unix::fs::FileExt;
 
-// Bytes 18 and 19 of a database say what is needed to write and to read it: here no log of the kind that the kit keeps.
+// Bytes 18 and 19 of a database say how it is written and read: here without a write-ahead log, which the kit would use.
 const VERSIONS: [u8; 2] = [1, 1];
 
-/// Fills the empty file with what the script makes, and makes it last. The log of the kit stays beside it.
+/// Fills the empty file with the database that the script makes, and syncs it. The log of the kit stays beside it.
 pub(crate) fn fill(rt: &HostRuntime, name: &str, script: &str) -> io::Result<()> {
     if let Err(error) = store(rt, name, script) {
         return Err(cause(rt.alloc(), error));
@@ -22,7 +22,7 @@ pub(crate) fn fill(rt: &HostRuntime, name: &str, script: &str) -> io::Result<()>
     file.sync_all()
 }
 
-// Makes the database of the script, and lets go of it.
+// Makes the database of the script, and closes it.
 fn store(rt: &HostRuntime, name: &str, script: &str) -> Result<(), Error> {
     let mut conn = Connection::open(rt, name)?;
     run_script(&mut conn, script)?;
@@ -37,7 +37,7 @@ pub fn run_script<S: Alter>(conn: &mut Connection<S>, script: &str) -> Result<()
     conn.execute_batch(script)
 }
 
-// Why there is no database, as an error of the system.
+// The reason why there is no database, as an error of the system.
 fn cause(alloc: Global, error: Error) -> io::Error {
     if error == Error::SqliteFailure(ErrorCode::OutOfMemory) {
         return ErrorKind::OutOfMemory.into();

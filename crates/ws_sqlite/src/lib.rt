@@ -1,7 +1,7 @@
-//! A database of SQLite, made in a file: the kit's `sqlite` runs a script of SQL in a new file beside it, which then takes the name in
-//! one step.
+//! Makes a database of SQLite in a file. The kit's `sqlite` runs a script of SQL in a new file beside it, which then takes the
+//! file's name in one step.
 //!
-//! The database has no log beside it, and needs none to be read.
+//! The finished database has no log beside it, and needs none to be read.
 #![tactic(auto)]
 
 mod filling;

@@ -1,4 +1,4 @@
-//! A database is made beside a file, and takes its name in one step.
+//! Making a database beside a file, and giving it the file's name in one step.
 
 use crate::filling::fill;
 use std::fs::{self, File};
@@ -6,8 +6,8 @@ use std::io::{self, ErrorKind};
 use std::path::Path;
 use std::process;
 
-/// Makes a database of the script in the file. One that is there is replaced whole, or stays as it was; if the path is a link, it is
-/// the file that it leads to.
+/// Makes a database of the script at `path`. A file that is there is replaced whole, or stays as it was. If the path is a link,
+/// the file that it leads to is replaced.
 pub fn write_database(rt: &HostRuntime, path: &str, script: &str) -> io::Result<()> {
     match Path::new(path).canonicalize(rt) {
         Ok(file) => replace(rt, file.as_str(), script),
@@ -15,7 +15,7 @@ pub fn write_database(rt: &HostRuntime, path: &str, script: &str) -> io::Result<
     }
 }
 
-// The path is no link, or the link would give way.
+// Makes the database at a path that is no link; a link would itself be replaced.
 fn replace(rt: &HostRuntime, path: &str, script: &str) -> io::Result<()> {
     let pid = process::id(rt.process());
     let name = format!(in rt.alloc(); "{path}.{pid}.new")?;
@@ -32,7 +32,7 @@ fn replace(rt: &HostRuntime, path: &str, script: &str) -> io::Result<()> {
     done
 }
 
-// The names of a database that is made beside a file, and of its log.
+// The names of the database that is made beside a file, and of its log.
 #[derive(Clone, Copy)]
 struct Beside<'a> {
     name: &'a str,
@@ -40,7 +40,7 @@ struct Beside<'a> {
 }
 
 impl Beside<'_> {
-    // Nothing has the names any more. A log that a process of the same number left would be taken for ours.
+    // Removes what has these names. A log left by an earlier process with the same number would be taken for ours.
     fn clear(self, rt: &HostRuntime) -> io::Result<()> {
         remove(rt, self.log)?;
         remove(rt, self.name)
@@ -55,7 +55,7 @@ impl Beside<'_> {
     }
 }
 
-// No file has the name any more.
+// Removes the file with this name, if there is one.
 fn remove(rt: &HostRuntime, name: &str) -> io::Result<()> {
     match fs::remove_file(rt, name) {
         Err(error) if error.kind() != ErrorKind::NotFound => Err(error),
@@ -63,7 +63,7 @@ fn remove(rt: &HostRuntime, name: &str) -> io::Result<()> {
     }
 }
 
-// Refuses a file beside which SQLite has a log or a journal: the new file would be read with it.
+// Refuses a path beside which SQLite has a log or a journal, because the new file would be read with it.
 fn has_no_log(rt: &HostRuntime, path: &str) -> io::Result<()> {
     let log = format!(in rt.alloc(); "{path}-wal")?;
     let journal = format!(in rt.alloc(); "{path}-journal")?;
@@ -73,7 +73,7 @@ fn has_no_log(rt: &HostRuntime, path: &str) -> io::Result<()> {
     Ok(())
 }
 
-// The new file takes the path's name, in the place of the plain file that has it, and its mode.
+// Renames the new file to `path`. If a file is there, it must be a plain file; the new one gets its mode and replaces it.
 fn take_over(rt: &HostRuntime, name: &str, path: &str) -> io::Result<()> {
     if let Ok(old) = fs::metadata(rt, path) {
         if !old.is_file() {

@@ -6,7 +6,7 @@ use Rattle.ws_state.specs.declared.states.Held.{Held}
 use Rattle.ws_state.specs.declared.worlds.Waiting.{Waiting}
 use Rattle.ws_state.specs.declared.heads.HeadWaiting.{HeadWaiting}
 
--- The number of the update that waits, by its place among those that are held.
+-- The number of the update that waits, by its place among the held updates.
 abbrev pub number_at : List Held → Waiting → Option ℕ
 number_at held w = option_map (λ (h : Held). h.update.number) (slice_get held w.held)
 

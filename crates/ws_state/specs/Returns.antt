@@ -53,12 +53,13 @@ pub record WasSaid (n : ℕ) (s t : State) : Type 0 where
   pub kept : IsKept s.world n latest
   pub goes_on : GoesOn s.world t.world
 
--- The numbers are not just that of the latest update, or fewer updates wait than before it, or a mapping was declared once more.
+-- The numbers are not exactly the latest update's number, or fewer updates wait than before it, or a mapping was declared once
+-- more.
 pub record IsAnother (ns : List ℕ) (waiting : ℕ) (again : Bool) (kept : Option Latest) : Type 0 where
   pub other : (l : Latest) → kept ≡ Some l → ns ≡ l.number ∷ [] → l.waiting ≤ waiting → again ≡ false → ⊥
 
--- The way from t to u is an undo of these updates. If they are the latest update alone, said over what stands in s, then the same
--- stands in u as in s, unless that update gave up one that waited, or a mapping was declared once more since the last replay.
+-- The way from t to u is an undo of these updates. Suppose they are the latest update alone, said over what stands in s, no fewer
+-- updates wait in t than in s, and no mapping was declared once more since the last replay. Then the same stands in u as in s.
 pub record TakesBack (ns : List ℕ) (t u : State) : Type 0 where
   pub stands : (n : ℕ) (s : State) → ns ≡ n ∷ [] → WasSaid n s t → length s.world.waiting.items ≤ length t.world.waiting.items
       → t.redeclared ≡ false → what_stands u.world ≡ what_stands s.world

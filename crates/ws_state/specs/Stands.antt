@@ -10,8 +10,8 @@ use Rattle.ws_state.specs.declared.worlds.Standing.{Standing}
 use Rattle.ws_state.specs.declared.worlds.World.{World}
 use Rattle.ws_state.specs.declared.states.State.{State}
 
--- What stands: the tuples and what was written since the fold, the mappings in force and those that are gone, and the updates
--- that stand, in their order.
+-- What stands: the tuples and what was written since the fold, the mappings in force and the mappings that are gone, and the
+-- updates that stand, in their order.
 pub record WhatStands : Type 0 where
   pub facts : List Fact
   pub trail : List Write
@@ -29,7 +29,7 @@ what_stands w =
       order = w.order.items;
     }
 
--- What stood at the last fold: the tuples, the mappings in force, and how many names were given by then.
+-- What stood at the last fold: the tuples, the mappings in force, and the number of names given by then.
 pub record WhatStood : Type 0 where
   pub facts : List Fact
   pub in_force : List ℕ

@@ -8,7 +8,7 @@ use base_types::{Memory, NumberList};
 use std::alloc::Global;
 use std::mem;
 
-/// The latest update that was said: its number, its place among those that are held, and what stood and how many waited before
+/// The latest update that was said: its number, its place among the held updates, and what stood and how many waited before
 /// it.
 #[derive(Drop)]
 pub(crate) struct Latest {

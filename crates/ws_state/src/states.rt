@@ -24,10 +24,10 @@ pub struct Held {
     pub first: Option<GivenList>,
 }
 
-/// Held updates: first those that waited at the last fold, then those of the log.
+/// Held updates: first the updates that waited at the last fold, then the updates of the log.
 pub type HeldList = Vec<Held>;
 
-/// What a line of the log did, if a replay runs it again. Updates are given by their places among those that are held.
+/// What a line of the log did, if a replay runs it again. Updates are given by their places among the held updates.
 #[derive(Drop)]
 pub(crate) enum Said {
     Update(usize),
@@ -228,7 +228,7 @@ impl State {
         Ok(ran.reason())
     }
 
-    /// The place of the update with this number among those that are held.
+    /// The place of the update with this number among the held updates.
     pub(crate) fn place_of(&self, number: u32) -> Option<usize> {
         self.places.get(&number).copied()
     }

@@ -15,7 +15,7 @@ use ws_lines::{Deed, GivenList, Update};
 use ws_names::{Names, Places};
 use ws_run::{Ground, InForce, Op, OpList, Reason, Setting, Thread, image_for, run_deed};
 
-/// An update to run, by its place among those that are held, with its answers.
+/// An update to run, by its place among the held updates, with its answers.
 #[derive(Clone, Copy)]
 pub(crate) struct Turn<'a> {
     pub place: usize,

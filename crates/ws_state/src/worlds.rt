@@ -1,4 +1,4 @@
-//! What stands: the tuples, the mappings in force, the updates that stand in their order, and those that wait.
+//! What stands: the tuples, the mappings in force, the updates that stand in their order, and the updates that wait.
 ghost use Rattle.std.specs.Prelude.{◌≡◌, IfOk};
 
 use crate::states::put;
@@ -17,7 +17,7 @@ pub enum Status {
     GivenUp,
 }
 
-/// An update that stands, by its place among those that are held: the answers that it took, its ops and steps, the image that it
+/// An update that stands, by its place among the held updates: the answers that it took, its ops and steps, the image that it
 /// repairs for, if it is a repair, and its writes by names.
 #[derive(Drop)]
 pub struct Standing {
@@ -32,7 +32,7 @@ pub struct Standing {
 /// Updates that stand, in the order in which they came to stand.
 pub type StandingList = List<Standing>;
 
-/// An update that waits, by its place among those that are held, with the answers that it has.
+/// An update that waits, by its place among the held updates, with the answers that it has.
 #[derive(Drop)]
 pub struct Waiting {
     pub held: usize,
@@ -169,7 +169,7 @@ pub(crate) fn wait_among(
     Ok(())
 }
 
-/// Takes the update from those that wait.
+/// Takes the update from the updates that wait.
 pub(crate) fn wait_no_more(alloc: Global, list: &mut WaitingList, held: usize) {
     let mut kept = mem::replace(list, WaitingList::new(alloc)).into_vec();
     kept.retain(|waiting| waiting.held != held);

@@ -1,4 +1,4 @@
-//! What `--only` and the want of `--cascade` refuse.
+//! The refusals under `--only`, and without `--cascade`.
 
 use base_types::Tuple;
 use def_memory::Memory;
@@ -14,10 +14,10 @@ use ws_space::Space;
 use ws_state::{Effect, Moved};
 use ws_written::{Fact, Line, NewFact, Update};
 
-/// The most tuples of which `--only` tells that they would change.
+/// The greatest number of tuples that the refusal under `--only` lists.
 const TOLD: usize = 10;
 
-/// The tuples that a line names, by names: those that are to go, and those that are to come.
+/// The tuples that a line names, by names: the tuples that go, and the tuples that come.
 #[derive(Drop)]
 struct Named {
     going: BTreeSet<Tuple>,
@@ -92,7 +92,7 @@ fn named_by(alloc: Global, space: &Space, line: &Line) -> Result<Named, Memory> 
     Ok(named)
 }
 
-// Whether the line takes tuples away that it names.
+// Whether the line takes away tuples that it names.
 fn takes_away(line: &Line) -> bool {
     match line {
         Line::Update(numbered) => match &numbered.update {
@@ -103,7 +103,7 @@ fn takes_away(line: &Line) -> bool {
     }
 }
 
-/// Refuses an update that would ask, under `--only`.
+/// The refusal of an update that would ask, under `--only`.
 pub(crate) fn refuse_asking<T: Drop>(
     alloc: Global,
     space: &Space,
@@ -114,7 +114,7 @@ pub(crate) fn refuse_asking<T: Drop>(
     refuse(alloc, words.as_str(), "without --only it asks")
 }
 
-/// Refuses what the bounds do not let through of what the line did.
+/// Refuses the line if its effect goes beyond the bounds.
 pub(crate) fn check_bounds(
     alloc: Global,
     space: &Space,
@@ -132,7 +132,7 @@ pub(crate) fn check_bounds(
     Ok(())
 }
 
-// What a line would change beyond what it may: how much, and the first of it in lines.
+// What a line changes beyond its bounds: the number of tuples, and lines for the first of them.
 #[derive(Drop)]
 struct Excess {
     count: usize,
@@ -147,7 +147,7 @@ impl Excess {
         }
     }
 
-    // A tuple more, which is told by itself.
+    // Counts a tuple, and lists it.
     fn add(&mut self, alloc: Global, space: &Space, moved: &Moved) {
         self.count = self.count.saturating_add(1);
         if self.lines.len() < TOLD {
@@ -155,7 +155,7 @@ impl Excess {
         }
     }
 
-    // A tuple more, which is told as one that goes.
+    // Counts a tuple, and lists it as one that goes.
     fn add_row(&mut self, alloc: Global, space: &Space, moved: &Moved) {
         self.count = self.count.saturating_add(1);
         if self.lines.len() < MANY {
@@ -164,7 +164,7 @@ impl Excess {
     }
 }
 
-// What goes and is not named.
+// Adds the tuples that go and are not named.
 fn add_unnamed(alloc: Global, space: &Space, excess: &mut Excess, named: &Named, went: &[Moved]) {
     for moved in went {
         if !named.has(&moved.tuple) {
@@ -173,7 +173,7 @@ fn add_unnamed(alloc: Global, space: &Space, excess: &mut Excess, named: &Named,
     }
 }
 
-// What comes by a mapping.
+// Adds the tuples that come by a mapping.
 fn add_made(alloc: Global, space: &Space, excess: &mut Excess, came: &[Moved]) {
     for moved in came {
         if moved.by.is_some() {
@@ -182,7 +182,7 @@ fn add_made(alloc: Global, space: &Space, excess: &mut Excess, came: &[Moved]) {
     }
 }
 
-// Nothing goes that is not named, and nothing comes by a mapping.
+// Refuses the line if a tuple goes that is not named, or if one comes by a mapping.
 fn check_only(alloc: Global, space: &Space, named: &Named, effect: &Effect) -> Result<(), Refusal> {
     let mut excess = Excess::none(alloc);
     add_unnamed(alloc, space, &mut excess, named, effect.went.as_slice());
@@ -201,7 +201,7 @@ fn check_only(alloc: Global, space: &Space, named: &Named, effect: &Effect) -> R
     )
 }
 
-// Nothing goes along that is not named to go.
+// Refuses the line if a tuple goes that is not named to go.
 fn check_along(
     alloc: Global,
     space: &Space,
@@ -227,7 +227,7 @@ fn check_along(
     )
 }
 
-// What goes and is not named to go.
+// The tuples that go and are not named to go.
 fn gone_along(alloc: Global, space: &Space, named: &Named, went: &[Moved]) -> Excess {
     let mut excess = Excess::none(alloc);
     for moved in went {

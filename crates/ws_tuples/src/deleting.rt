@@ -15,7 +15,7 @@ use ws_report::{Done, Note, Report, facts_text};
 use ws_space::{Space, copy_fact};
 use ws_written::{Fact, Update};
 
-/// Deletes the tuples for which patterns stand. It is refused if one names an unknown that is not there.
+/// Deletes the tuples that the patterns stand for. It is refused if one of them names an unknown that is not there.
 pub fn delete(
     alloc: Global,
     space: &mut Space,
@@ -36,7 +36,7 @@ pub fn delete(
     with_notes(done, notes)
 }
 
-// The change, with these hints behind its own.
+// The change with these hints after its own.
 fn with_notes(done: Done, notes: Vec<Note>) -> Result<Done, Refusal> {
     let mut done = done;
     let mut notes = notes;
@@ -46,7 +46,7 @@ fn with_notes(done: Done, notes: Vec<Note>) -> Result<Done, Refusal> {
     }
 }
 
-// The hint that tuples were not there, if there are any.
+// The hint that tuples were not there; none if there are none.
 fn absent_notes(alloc: Global, space: &Space, absent: &[Fact]) -> Result<Vec<Note>, Memory> {
     let mut notes = Vec::new(alloc);
     if let [_, ..] = absent {
@@ -56,7 +56,7 @@ fn absent_notes(alloc: Global, space: &Space, absent: &[Fact]) -> Result<Vec<Not
     Ok(notes)
 }
 
-// Whether a `_` stands in one of the patterns.
+// Whether one of the patterns has a `_`.
 fn has_any(patterns: &[Pattern]) -> bool {
     for pattern in patterns {
         for value in pattern.values.iter() {
@@ -68,7 +68,7 @@ fn has_any(patterns: &[Pattern]) -> bool {
     false
 }
 
-// The tuples for which the patterns stand, in order; each once if a `_` stands in one.
+// The tuples that the patterns stand for, in order. If one has a `_`, no tuple occurs twice.
 fn facts_of(alloc: Global, space: &Space, patterns: &[Pattern]) -> Result<Vec<Fact>, Refusal> {
     let mut facts = Vec::new(alloc);
     for pattern in patterns {
@@ -81,7 +81,7 @@ fn facts_of(alloc: Global, space: &Space, patterns: &[Pattern]) -> Result<Vec<Fa
     Ok(facts)
 }
 
-// The tuples, each in its first place.
+// The tuples without repetition, each at its first place.
 fn each_once(alloc: Global, space: &Space, facts: Vec<Fact>) -> Result<Vec<Fact>, Memory> {
     let mut seen: BTreeSet<Tuple> = BTreeSet::new(alloc);
     let mut distinct = Vec::new(alloc);
@@ -100,7 +100,7 @@ fn check_facts(alloc: Global, space: &Space, facts: &[Fact]) -> Result<(), Refus
     Ok(())
 }
 
-// Those of the tuples that are not there. It is refused if one names an unknown that is not there.
+// The tuples that are not there. It is refused if one of the tuples names an unknown that is not there.
 fn absent_of(alloc: Global, space: &Space, facts: &[Fact]) -> Result<Vec<Fact>, Refusal> {
     check_facts(alloc, space, facts)?;
     let mut absent = Vec::new(alloc);
@@ -123,7 +123,7 @@ fn patterns_line(alloc: Global, space: &Space, patterns: &[Pattern]) -> Result<S
     Ok(line.done()?)
 }
 
-// None of the tuples is there: those that are like the first one are told.
+// The outcome if none of the tuples is there. It lists tuples that resemble the first one.
 fn not_there(alloc: Global, space: &Space, facts: &[Fact]) -> Result<Done, Refusal> {
     let texts = facts_text(alloc, space, facts)?;
     let line = format!(in alloc; "delete {texts}")?;
@@ -133,7 +133,7 @@ fn not_there(alloc: Global, space: &Space, facts: &[Fact]) -> Result<Done, Refus
     Ok(Done::unrecorded(alloc, report))
 }
 
-/// What is told of the tuples that are like one that is not there.
+/// The lines for the tuples that resemble one that is not there.
 pub(crate) fn near_lines(
     alloc: Global,
     space: &Space,

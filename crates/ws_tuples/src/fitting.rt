@@ -1,4 +1,4 @@
-//! The tuples for which patterns stand.
+//! The tuples that patterns stand for.
 
 use crate::names::check_value;
 use base_types::Tuple;
@@ -9,7 +9,7 @@ use ws_fault::Refusal;
 use ws_space::{Space, plain_fact};
 use ws_written::Fact;
 
-/// The tuples for which a pattern stands, in order: a pattern without `_` for itself. It is refused if it has a `_` and names
+/// The tuples that a pattern stands for, in order. A pattern without `_` stands for itself. One with `_` is refused if it names
 /// an unknown that is not there.
 pub(crate) fn fitting_facts(
     alloc: Global,

@@ -12,7 +12,7 @@ use ws_report::{Done, refuse};
 use ws_space::Space;
 use ws_written::{NewFact, Update};
 
-/// The most tuples of a workspace.
+/// The greatest number of tuples in a workspace.
 const TUPLES: usize = 1_000_000;
 
 /// Inserts tuples. It is refused if one names an unknown that is not there, or if the workspace is full.
@@ -29,7 +29,7 @@ pub fn insert(
     }
 }
 
-// The line as it is told, if all tuples are there.
+// The line as the reply prints it, if all tuples are there; else None. It is refused if it cannot be inserted.
 fn line_if_there(
     alloc: Global,
     space: &Space,
@@ -50,7 +50,7 @@ fn line_if_there(
     Ok(Some(line))
 }
 
-// Whether all are there, none of them with a new unknown.
+// Whether all tuples are there and none has a new unknown.
 fn are_there(alloc: Global, space: &Space, facts: &[NewFact]) -> Result<bool, Memory> {
     for fact in facts {
         let Some(known) = known_fact(alloc, fact)? else {

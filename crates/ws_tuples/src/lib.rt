@@ -1,4 +1,4 @@
-//! Tuples: inserted, deleted and replaced, by one update within its bounds.
+//! Tuples are inserted, deleted and replaced, each time by one update within its bounds.
 #![tactic(auto)]
 
 mod bounds;

@@ -1,4 +1,4 @@
-//! `replace`, of an unknown and of a tuple.
+//! `replace`, for an unknown and for a tuple.
 
 use crate::deleting::near_lines;
 use crate::fitting::fitting_facts;
@@ -17,7 +17,7 @@ use ws_report::{Done, joined, refuse, refuse_with, said_text};
 use ws_space::{Space, copy_value};
 use ws_written::{Fact, NewFact, NewValue, Unknown, Update, Value};
 
-/// The most tuples that are told of those that fit.
+/// The greatest number of fitting tuples that are listed.
 const TOLD: usize = 3;
 
 fn nothing_to_do(alloc: Global, space: &Space, update: &Update) -> Result<Done, Refusal> {
@@ -27,7 +27,7 @@ fn nothing_to_do(alloc: Global, space: &Space, update: &Update) -> Result<Done, 
     Ok(Done::nothing(alloc, "nothing to do", line))
 }
 
-/// Puts a value for an unknown. It is refused if one of them is an unknown that is not there.
+/// Replaces an unknown by a value. It is refused if one of them is an unknown that is not there.
 pub fn fill(
     alloc: Global,
     space: &mut Space,
@@ -51,7 +51,7 @@ fn check_both(
     check_value(alloc, space, value)
 }
 
-// Takes the update, unless it puts the same for the same.
+// Takes the update, unless it would replace something by itself.
 fn changed(
     alloc: Global,
     space: &mut Space,
@@ -68,7 +68,7 @@ fn changed(
     }
 }
 
-// Whether the update puts the same for the same.
+// Whether the update replaces something by itself.
 fn is_idle(alloc: Global, update: &Update) -> Result<bool, Memory> {
     match update {
         Update::Fill(unknown, value) => Ok(same_value(&Value::Unknown(*unknown), value)),
@@ -80,7 +80,7 @@ fn is_idle(alloc: Global, update: &Update) -> Result<bool, Memory> {
     }
 }
 
-/// Puts a tuple for another. It is refused if not one tuple fits the first pattern, if that is not there, or if an unknown is
+/// Replaces a tuple by another. It is refused unless exactly one tuple fits the first pattern and is there, or if an unknown is
 /// not there.
 pub fn replace(
     alloc: Global,
@@ -99,7 +99,7 @@ pub fn replace(
     changed(alloc, space, Update::Change(old, new), bounds)
 }
 
-// The one tuple for which the pattern stands.
+// The only tuple that the pattern stands for. It is refused if there is none, or more than one.
 fn one_fact(alloc: Global, space: &Space, pattern: &Pattern) -> Result<Fact, Refusal> {
     let mut facts = fitting_facts(alloc, space, pattern)?;
     if facts.len() == 1 {
@@ -119,7 +119,7 @@ fn one_fact(alloc: Global, space: &Space, pattern: &Pattern) -> Result<Fact, Ref
     refuse_with(alloc, words.as_str(), "", texts)
 }
 
-// Whether a `_` stands in it.
+// Whether the replacement has a `_`.
 fn keeps_some(new: &Replacement) -> bool {
     for value in new.values.iter() {
         if value.is_none() {
@@ -129,7 +129,7 @@ fn keeps_some(new: &Replacement) -> bool {
     false
 }
 
-// The tuple that comes: `_` keeps what stands in the old one.
+// The tuple that comes; `_` keeps the value of the old one.
 fn replacement(alloc: Global, old: &Fact, new: &Replacement) -> Result<NewFact, Refusal> {
     if old.relation != new.relation && keeps_some(new) {
         return refuse(alloc, "_ keeps a value of the same relation", "");
@@ -159,7 +159,7 @@ fn copy_new_value(alloc: Global, value: &NewValue) -> Result<NewValue, Memory> {
     })
 }
 
-// The tuple is not there: those that are like it are told.
+// Refuses a tuple that is not there, and lists tuples that resemble it.
 fn refuse_absent(alloc: Global, space: &Space, fact: &Fact) -> Result<Done, Refusal> {
     let text = said_text(alloc, space, fact)?;
     let words = format!(in alloc; "{text} is not there")?;

@@ -13,7 +13,7 @@ use ws_space::Space;
 use ws_state::{Effect, Mark};
 use ws_written::{Line, NewFact, Update};
 
-/// What is told of an update beside its effect or its question.
+/// What the report of an update says beside its effect or its question.
 #[derive(Drop)]
 struct Words {
     text: String,
@@ -21,7 +21,7 @@ struct Words {
     next: Vec<String>,
 }
 
-/// Takes an update within its bounds, and tells of it.
+/// Takes an update within its bounds, and reports it.
 pub(crate) fn single(
     alloc: Global,
     space: &mut Space,
@@ -41,7 +41,7 @@ pub(crate) fn single(
     recorded(alloc, report, line)
 }
 
-// The question, if that is why the update waits.
+// The question, if the update waits for its answer.
 fn question_of(reason: Option<Reason>) -> Option<Question> {
     match reason {
         Some(Reason::Asks(question)) => Some(question),
@@ -73,7 +73,7 @@ fn stands(
     }
 }
 
-// The words on an update that stands, if it is within its bounds.
+// The words for an update that stands. It is refused if it is not within its bounds.
 fn standing_words(
     alloc: Global,
     space: &Space,
@@ -119,7 +119,7 @@ fn waits(
     }
 }
 
-// The words on an update that asks, if it may.
+// The words for an update that asks. It is refused under `--only`.
 fn waiting_words(
     alloc: Global,
     space: &Space,
@@ -137,7 +137,7 @@ fn waiting_words(
     })
 }
 
-// How many more tuples went than a deletion names.
+// The number of tuples that went beyond the number that the deletion names.
 fn along(line: &Line, effect: &Effect) -> usize {
     match line {
         Line::Update(numbered) => match &numbered.update {
@@ -160,7 +160,7 @@ fn inserted(line: &Line) -> &[NewFact] {
     }
 }
 
-// The hints about what the update inserts.
+// The hints about the tuples that the update inserts.
 fn hints_of(alloc: Global, space: &Space, line: &Line, number: u32) -> Result<Vec<Note>, Memory> {
     let mut notes = Vec::new(alloc);
     let mut hints = Hints::new(alloc);

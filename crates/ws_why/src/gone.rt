@@ -1,4 +1,4 @@
-//! What took a tuple away that is not there.
+//! What took away a tuple that is not there.
 
 use crate::steps::{Made, rewritten};
 use base_types::{Memory, Tuple};
@@ -14,7 +14,7 @@ use ws_run::{Step, Taking};
 use ws_space::Space;
 use ws_written::Fact;
 
-// Which update took it away, how, and that in words.
+// The update that took the tuple away, how, and the reply in words.
 #[derive(Drop)]
 struct Told {
     number: u32,
@@ -22,7 +22,7 @@ struct Told {
     words: String,
 }
 
-/// What took the tuple away last. It is refused if none did.
+/// What took the tuple away last. It is refused if no update did.
 pub(crate) fn gone(
     alloc: Global,
     space: &Space,
@@ -39,7 +39,7 @@ pub(crate) fn gone(
     }
 }
 
-// No update took the tuple away.
+// The fault that no update took the tuple away.
 fn never(alloc: Global, space: &Space, fact: &Fact, said: &str) -> Result<Fault, Memory> {
     let words = format!(in alloc; "{said} is not there")?;
     let hint = near_hint(alloc, space, fact)?;
@@ -64,7 +64,7 @@ fn near_hint(alloc: Global, space: &Space, fact: &Fact) -> Result<Option<String>
     Ok(Some(hint))
 }
 
-// The last step that took the tuple away, by names.
+// The last step that took the tuple away; `tuple` is by names.
 fn last_taken(
     alloc: Global,
     space: &Space,
@@ -81,7 +81,7 @@ fn last_taken(
     Ok(None)
 }
 
-// The tuple within that the step took away, if it is the tuple by its name.
+// The tuple within that the step took away, if it is `tuple` by names.
 fn taken_by<'a>(
     alloc: Global,
     space: &Space,
@@ -138,7 +138,7 @@ fn source_name(space: &Space, source: Source) -> &str {
     space.mapping_name(space.source_mapping(source).unwrap_or(u16::MAX))
 }
 
-// What the tuple became, as a command takes it.
+// What the tuple became, in the form that commands take.
 fn became(alloc: Global, space: &Space, way: &Way, taken: &Tuple) -> Result<String, Memory> {
     match way {
         Way::Rewrites(rewriting) => {

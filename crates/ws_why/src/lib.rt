@@ -1,4 +1,4 @@
-//! `why`: the explanation of a tuple, what took one away, and what drew an unknown.
+//! `why`: the explanation of a tuple, what took a tuple away, and what drew an unknown.
 #![tactic(auto)]
 
 mod gone;

@@ -1,4 +1,4 @@
-//! Why a tuple is there: the reason for it, and below it the reasons for what it rests on.
+//! Why a tuple is there: its reason, and below that the reasons for the tuples that it rests on.
 
 use crate::steps::{Origin, Steps, origin_by};
 use base_types::{Memory, Tuple, TupleList};
@@ -8,8 +8,8 @@ use ws_lines::Source;
 use ws_run::WANT;
 use ws_space::Space;
 
-/// How a tuple came to be there: it is in the base, was inserted, was made by the mapping of this number for an image of its left
-/// side, or was another tuple. All by names.
+/// How a tuple came to be there: it is in the base, it was inserted, the mapping with this number made it for an image of its
+/// left side, or it was another tuple. All of it is by names.
 #[derive(Drop)]
 pub(crate) enum How {
     Base,
@@ -19,7 +19,7 @@ pub(crate) enum How {
 }
 
 impl How {
-    /// What it is called.
+    /// The word for it.
     pub(crate) fn word(&self) -> &'static str {
         match self {
             How::Base => "base",
@@ -30,7 +30,7 @@ impl How {
     }
 }
 
-/// A reason: the tuple by names, the update that put it, how deep it stands, and whether it was told above.
+/// A reason: the tuple by names, the update that put it, its depth, and whether the same reason stands above.
 #[derive(Drop)]
 pub(crate) struct Reason {
     pub tuple: Tuple,
@@ -40,7 +40,7 @@ pub(crate) struct Reason {
     pub again: bool,
 }
 
-// A tuple within that is to be explained as it was before a step.
+// A tuple within that is still to be explained, as it was before a step.
 #[derive(Drop)]
 struct Open {
     tuple: Tuple,
@@ -48,7 +48,7 @@ struct Open {
     depth: usize,
 }
 
-/// The reasons for a tuple within that is there: first its own, behind each those for what it rests on.
+/// The reasons for a tuple within that is there: first its own, and after each reason those for what the tuple rests on.
 pub(crate) fn reasons_for(
     alloc: Global,
     space: &Space,
@@ -65,7 +65,7 @@ pub(crate) fn reasons_for(
     Ok(told.reasons)
 }
 
-// The reasons so far, the tuples that are to be explained, and those that were, each with the place of the step that put it.
+// The reasons so far; the tuples still to be explained; and those explained already, each with the place of the step that put it.
 #[derive(Drop)]
 struct Told {
     reasons: Vec<Reason>,
@@ -98,7 +98,7 @@ impl Told {
         Ok(())
     }
 
-    // Gives the reason for the tuple, and opens what it rests on, unless that was told above.
+    // Adds the reason for the tuple, and opens the tuples that it rests on, unless the reason stands above.
     fn explain(
         &mut self,
         alloc: Global,
@@ -134,7 +134,7 @@ impl Told {
     }
 }
 
-// How the tuple came to be there, by which update, and the tuples within that it rests on.
+// How the tuple came to be there, the update that put it, and the tuples within that it rests on.
 fn how_of(
     alloc: Global,
     space: &Space,

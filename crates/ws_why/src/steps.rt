@@ -1,4 +1,4 @@
-//! The steps of what stands, and which of them put a tuple.
+//! The steps of the updates that stand, and which of them put a tuple.
 
 use base_types::{Memory, TryCopy, Tuple, TupleList, Value, ValueList};
 use chase_unifier::apply;
@@ -17,7 +17,7 @@ pub(crate) struct Made<'a> {
     pub step: &'a Step,
 }
 
-/// All steps of what stands, in order, and for each tuple the places of those that put it.
+/// All steps of the updates that stand, in order, and for each tuple the places of the steps that put it.
 #[derive(Drop)]
 pub(crate) struct Steps<'a> {
     pub all: Vec<Made<'a>>,
@@ -25,7 +25,7 @@ pub(crate) struct Steps<'a> {
 }
 
 impl<'a> Steps<'a> {
-    /// The steps of what stands.
+    /// The steps of the updates that stand.
     pub(crate) fn of(alloc: Global, space: &'a Space) -> Result<Steps<'a>, Memory> {
         let mut steps = Steps {
             all: Vec::new(alloc),
@@ -48,7 +48,7 @@ impl<'a> Steps<'a> {
         Ok(())
     }
 
-    // The step at a place put the tuple.
+    // Notes that the step at a place put the tuple.
     fn put(&mut self, alloc: Global, tuple: &Tuple, place: usize) -> Result<(), Memory> {
         match self.puts.get_mut(tuple) {
             Some(places) => places.push(place)?,
@@ -63,7 +63,7 @@ impl<'a> Steps<'a> {
         Ok(())
     }
 
-    /// The place of the last step before this one that put the tuple; None of a tuple of the base.
+    /// The place of the last step before `before` that put the tuple; None for a tuple of the base.
     pub(crate) fn origin(&self, tuple: &Tuple, before: usize) -> Option<usize> {
         for place in self.puts.get(tuple)?.iter().rev() {
             if *place < before {
@@ -73,13 +73,13 @@ impl<'a> Steps<'a> {
         None
     }
 
-    /// How many steps there are.
+    /// The number of steps.
     pub(crate) fn count(&self) -> usize {
         self.all.len()
     }
 }
 
-/// How a step came to a tuple that it put, within.
+/// How a step came to a tuple that it put, all within.
 #[derive(Drop)]
 pub(crate) enum Origin {
     Inserted,
@@ -124,7 +124,7 @@ fn least_from(
     least.unwrap_or(tuple).share()
 }
 
-/// What the tuple became.
+/// What the tuple became by the step.
 pub(crate) fn rewritten(
     alloc: Global,
     rewriting: &Rewriting,

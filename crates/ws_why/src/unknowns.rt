@@ -1,4 +1,4 @@
-//! `why ?U.P`: what drew an unknown, and where it stands.
+//! `why ?U.P`: what drew an unknown, and which tuples have it.
 
 use base_types::{Mapping, Memory, Tuple, Value};
 use std::alloc::Global;
@@ -14,7 +14,7 @@ use ws_space::Space;
 use ws_state::{Held, Status};
 use ws_written::Unknown;
 
-/// What drew the unknown, and the tuples that it stands in. It is refused if it is not there.
+/// What drew the unknown, and the tuples that have it. It is refused if the unknown is not there.
 pub fn why_unknown(
     alloc: Global,
     space: &Space,
@@ -32,7 +32,7 @@ pub fn why_unknown(
     Ok(reply(alloc, context, name.as_str(), words, texts.as_slice())?)
 }
 
-// The tuples that the value stands in, in order, as commands take them.
+// The tuples that have the value, in order, in the form that commands take.
 fn texts_with(alloc: Global, space: &Space, value: &Value) -> Result<Vec<String>, Memory> {
     let mut texts = Lines::new(alloc);
     for number in 0..space.relations.len() {

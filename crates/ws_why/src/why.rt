@@ -14,11 +14,11 @@ use ws_reply::{Context, Reply, lines_text, number_of, object_of, refused, seen_o
 use ws_space::{Space, plain_fact};
 use ws_written::{Fact, Value};
 
-// How many of the tuples that fit are told.
+// The greatest number of fitting tuples that are listed.
 const TOLD: usize = 3;
 
-/// Why the tuple that fits is there, as a graph if that is asked for, or what took it away. It is refused if several fit or none
-/// was ever there.
+/// Why the tuple that fits is there, as a graph if `dot` asks for it, or what took it away. It is refused if several tuples fit,
+/// or if there never was one.
 pub fn why_fact(
     alloc: Global,
     space: &Space,
@@ -33,7 +33,7 @@ pub fn why_fact(
     }
 }
 
-// Why a tuple is there.
+// The explanation of a tuple that is there.
 fn explained(
     alloc: Global,
     space: &Space,
@@ -48,7 +48,7 @@ fn explained(
     why_reply(alloc, space, context, reasons.as_slice())
 }
 
-// The tuple that is meant; if a `_` stands in it, the one that fits.
+// The tuple that is meant. If the pattern has a `_`, it is the only one that fits.
 fn one_fact(alloc: Global, space: &Space, pattern: &Pattern) -> Result<Fact, Refusal> {
     if let Some(fact) = plain_fact(alloc, pattern)? {
         return Ok(fact);
@@ -61,7 +61,7 @@ fn one_fact(alloc: Global, space: &Space, pattern: &Pattern) -> Result<Fact, Ref
     }
 }
 
-// Not one tuple fits, but these, of which the first are told.
+// The fault that not exactly one tuple fits. It lists the first that do.
 fn not_one(
     alloc: Global,
     space: &Space,
@@ -87,7 +87,7 @@ fn first_texts(alloc: Global, space: &Space, tuples: &[Tuple]) -> Result<Vec<Str
     Ok(texts.done()?)
 }
 
-// An unknown that is not there is refused.
+// Refuses a pattern with an unknown that is not there.
 fn refuse_lost(alloc: Global, space: &Space, pattern: &Pattern) -> Result<(), Refusal> {
     for value in pattern.values.iter() {
         if let Some(Value::Unknown(unknown)) = value {
@@ -149,7 +149,7 @@ fn reason_items(alloc: Global, space: &Space, reasons: &[Reason]) -> Items {
     items
 }
 
-// The reason in a line, two blanks deeper for what a tuple rests on.
+// The reason as a line, indented by two more blanks for each level.
 fn line(alloc: Global, space: &Space, reason: &Reason) -> Result<String, Memory> {
     let mut line = Text::new(alloc);
     add_line(alloc, &mut line, space, reason);

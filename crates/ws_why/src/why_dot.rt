@@ -7,7 +7,7 @@ use ws_print::{Lines, Text};
 use ws_question::fact_text;
 use ws_space::Space;
 
-// A tuple by names, the update that put it, and how.
+// A tuple by names, the update that put it, and how it came to be there.
 #[derive(Drop)]
 struct Node {
     tuple: Tuple,
@@ -21,7 +21,7 @@ struct Graph {
     lines: Lines,
     nodes: Vec<Node>,
     edges: Vec<(usize, usize)>,
-    // The numbers of those that the next one may be a reason for.
+    // The numbers of the nodes that the next one may be a reason for.
     path: Vec<usize>,
 }
 
@@ -68,7 +68,7 @@ impl Graph {
         Ok(())
     }
 
-    // The number of the reason's node; a new one has its line.
+    // The number of the reason's node. A new node gets its line.
     fn number_of(
         &mut self,
         alloc: Global,
@@ -94,13 +94,13 @@ impl Graph {
 }
 
 impl Node {
-    // Whether the reason is one for this node.
+    // Whether the reason belongs to this node.
     fn is_of(&self, reason: &Reason) -> bool {
         self.tuple == reason.tuple && self.number == reason.number && self.how == reason.how.word()
     }
 }
 
-// The tuple, and in a second line what it is and who put it.
+// The tuple, and in a second line how it came to be there and who put it.
 fn label_of(alloc: Global, space: &Space, reason: &Reason) -> Result<String, Memory> {
     let mut label = Text::new(alloc);
     add_label(alloc, &mut label, space, reason)?;

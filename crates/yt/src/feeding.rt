@@ -1,4 +1,4 @@
-//! Standard input: its lines, and what of it belongs to a line.
+//! Standard input: its lines, and the part of it that belongs to a line.
 
 use def_memory::Memory;
 use std::alloc::Global;
@@ -15,7 +15,7 @@ pub struct Input {
     reader: BufReader<Stdin>,
 }
 
-// The most lines whose bytes are kept; a `load` of more is refused whatever they are.
+// The greatest number of lines whose bytes are kept; a `load` of more lines is refused in any case.
 const MOST: u64 = 1_000_000;
 
 impl Input {
@@ -34,7 +34,7 @@ impl Input {
         Ok(line)
     }
 
-    /// So many lines, or as many as there are.
+    /// The next `count` lines, or fewer if the input ends.
     pub fn lines(&mut self, alloc: Global, count: u64) -> io::Result<Fed> {
         let mut bytes = Vec::new(alloc);
         let mut lines = 0u64;
@@ -51,7 +51,7 @@ impl Input {
         Ok(Fed { bytes, lines })
     }
 
-    /// All that is left.
+    /// The rest of the input.
     pub fn rest(&mut self, alloc: Global) -> io::Result<Fed> {
         let mut bytes = Vec::new(alloc);
         self.reader.read_to_end(&mut bytes)?;
@@ -59,7 +59,8 @@ impl Input {
     }
 }
 
-/// What of standard input belongs to the one command of the words, or the words of the fault.
+/// The part of standard input that belongs to a command given by the program's words; if it cannot be read, the words of the
+/// fault.
 pub fn fed_by(
     rt: &HostRuntime,
     input: &mut Input,
@@ -80,7 +81,7 @@ pub fn fed_by(
     }
 }
 
-/// That standard input cannot be read, in words. It is refused for want of memory, also if that is why.
+/// The words for standard input that cannot be read. If memory is the reason, the error is want of memory.
 pub fn cannot_read(alloc: Global, error: &io::Error) -> Result<String, Memory> {
     if error.kind() == ErrorKind::OutOfMemory {
         return Err(Memory);

@@ -1,7 +1,8 @@
 //! `yt`: a shared workspace in one file.
 //!
-//! The words say which file, who speaks, and one command; without a command the lines of standard input are commands. The status is
-//! that of the command, or of a script the first at which it stops.
+//! The words give the file, who speaks, and one command; without a command, each line of standard input is a command. The status
+//! is that of the command. A script has the first status that stops it, or would stop it without `--keep-going`; if there is
+//! none, it says whether something waits.
 #![tactic(auto)]
 
 mod feeding;
@@ -16,7 +17,8 @@ use std::fs::File;
 use std::process::ExitCode;
 
 fn main(rt: HostRuntime) -> ExitCode {
-    // If a standard stream is closed, one of these gets its number. Else the workspace would, and what is printed would go into it.
+    // If a standard stream is closed, one of these files gets its number. Else the workspace would get it, and output would go
+    // there.
     let _streams = [nothing(&rt), nothing(&rt), nothing(&rt)];
     match run(&rt) {
         Ok(status) => ExitCode::from(status.code()),

@@ -1,4 +1,4 @@
-//! What the words ask for is done.
+//! Doing what the words ask for.
 
 use crate::feeding::{Input, fed_by};
 use crate::scripts::run_script;
@@ -71,7 +71,7 @@ fn begin(rt: &HostRuntime, words: &[String], work: &Words, time: &Time) -> Resul
     }
 }
 
-// Does the one command that the words have.
+// Does the one command that the words give.
 fn one(
     rt: &HostRuntime,
     words: &[String],
@@ -97,7 +97,7 @@ fn one(
     }
 }
 
-// Does the command, to which this of standard input belongs.
+// Does the command; `fed` is the part of standard input that belongs to it.
 fn done(
     rt: &HostRuntime,
     form: Form,

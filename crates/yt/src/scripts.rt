@@ -12,8 +12,8 @@ use ws_reply::{Form, Kind, Reply};
 use ws_session::{Fed, Session, Turn, fault_reply, not_utf8};
 use ws_words::Words;
 
-// A script under way: how replies are told, whether it is a terminal's, the number of the line, how many lines after it belong to
-// it, the first status that would have stopped it, and whether a change waited.
+// A script under way: the form of replies; whether it comes from a terminal; whether it goes on after faults; the number of the
+// line, and of the lines after it that belong to it; the first status that would have stopped it; and whether a change waited.
 #[derive(Drop)]
 struct Script {
     form: Form,
@@ -25,7 +25,7 @@ struct Script {
     waited: bool,
 }
 
-// What comes after a line.
+// What follows a line.
 #[derive(Clone, Copy)]
 enum Next {
     Line,
@@ -61,7 +61,7 @@ pub fn run_script(
 }
 
 impl Script {
-    // Reads a line, and what belongs to it, and does it.
+    // Reads a line with what belongs to it, and does it.
     fn step(
         &mut self,
         rt: &HostRuntime,
@@ -88,7 +88,7 @@ impl Script {
         }
     }
 
-    // Tells that a line could not be read, and stops.
+    // Prints that a line could not be read, and stops.
     fn unread(&self, rt: &HostRuntime, error: &io::Error) -> Result<Next, Memory> {
         let words = cannot_read(rt.alloc(), error)?;
         let hint = String::new(rt.alloc());
@@ -96,7 +96,7 @@ impl Script {
         Ok(Next::Stop(status))
     }
 
-    // The line without a byte order mark in front, if it is the first, and without its line feed.
+    // The line without its line feed; the first line also without a byte order mark.
     fn without_mark<'a>(&self, raw: &'a [u8]) -> &'a [u8] {
         let raw = raw.strip_suffix(b"\n").unwrap_or(raw);
         if self.number == 1 {
@@ -105,7 +105,7 @@ impl Script {
         raw
     }
 
-    // The lines after the line that belong to it.
+    // The following lines that belong to the line.
     fn fed(
         &mut self,
         alloc: Global,
@@ -157,7 +157,7 @@ impl Script {
         }
     }
 
-    // The number of the line that a fault tells.
+    // The line's number in faults; None at a terminal.
     fn line_number(&self) -> Option<u64> {
         if self.is_terminal {
             None
@@ -166,7 +166,7 @@ impl Script {
         }
     }
 
-    // Tells a reply, and goes on or not.
+    // Prints a reply, and goes on or stops.
     fn told(&mut self, rt: &HostRuntime, reply: &Reply) -> Result<Next, Memory> {
         if reply.kind == Kind::Quit {
             return Ok(Next::End);
@@ -183,7 +183,7 @@ impl Script {
         Ok(Next::Line)
     }
 
-    // The status of the script at its end.
+    // The status of the script after its last line.
     fn status(&self, rt: &HostRuntime, session: &mut Session) -> Status {
         if self.is_terminal {
             return Status::Done;

@@ -1,4 +1,4 @@
-//! What reaches the output and the error stream.
+//! What goes to standard output and standard error.
 
 use def_memory::Memory;
 use std::alloc::{AllocError, Global};
@@ -7,8 +7,8 @@ use ws_fault::{Fault, Status};
 use ws_reply::{Form, Kind, Reply};
 use ws_session::fault_reply;
 
-/// Tells a reply: a fault in text on the error stream, all else on the output. The status is that of the reply, unless it could not be
-/// told.
+/// Prints a reply: a fault in text on standard error, all else on standard output. The status is that of the reply, unless it
+/// could not be printed.
 pub fn tell(rt: &HostRuntime, form: Form, reply: &Reply) -> Status {
     let is_fault = reply.kind == Kind::Fault && form == Form::Text;
     let lines = reply.lines.as_slice();
@@ -23,7 +23,7 @@ pub fn tell(rt: &HostRuntime, form: Form, reply: &Reply) -> Status {
     }
 }
 
-// The lines in one text, each with a line feed.
+// The lines as one text, each with a line feed.
 fn joined(alloc: Global, lines: &[String]) -> Result<String, AllocError> {
     let mut text = String::new(alloc);
     for line in lines {
@@ -41,7 +41,7 @@ fn is_written(rt: &HostRuntime, is_fault: bool, text: &str) -> bool {
     }
 }
 
-// Writes the lines one by one, which takes no memory.
+// Writes the lines one by one, without allocating.
 fn are_written(rt: &HostRuntime, is_fault: bool, lines: &[String]) -> bool {
     for line in lines {
         let is_whole = is_written(rt, is_fault, line.as_str()) && is_written(rt, is_fault, "\n");
@@ -52,7 +52,7 @@ fn are_written(rt: &HostRuntime, is_fault: bool, lines: &[String]) -> bool {
     true
 }
 
-/// Tells lines on the output.
+/// Prints a text on standard output.
 pub fn tell_text(rt: &HostRuntime, text: &str) -> Result<Status, Memory> {
     let mut line = String::from_str(rt.alloc(), text)?;
     if !text.ends_with('\n') {
@@ -64,7 +64,7 @@ pub fn tell_text(rt: &HostRuntime, text: &str) -> Result<Status, Memory> {
     }
 }
 
-/// Tells a fault of the words, with what may be done about it, unless that is empty.
+/// Prints a fault of the words, with a hint unless it is empty.
 pub fn tell_fault(
     rt: &HostRuntime,
     form: Form,
@@ -83,24 +83,24 @@ pub fn tell_fault(
     tell_wrong(rt, form, &fault)
 }
 
-/// Tells a fault of the words.
+/// Prints a fault of the words.
 pub fn tell_wrong(rt: &HostRuntime, form: Form, fault: &Fault) -> Result<Status, Memory> {
     let reply = fault_reply(rt.alloc(), form, fault, "", None)?;
     Ok(tell(rt, form, &reply))
 }
 
-/// Tells that memory was wanting.
+/// Prints that memory ran out.
 pub fn tell_no_memory(rt: &HostRuntime) -> Status {
     let _ = rt.stderr().write_all(b"yt: out of memory\n");
     Status::NoMemory
 }
 
-/// The form in which replies are told.
+/// The form in which replies are printed.
 pub fn form_of(json: bool) -> Form {
     if json { Form::Json } else { Form::Text }
 }
 
-/// A text without a hint.
+/// The words as a text of its own.
 pub fn text(alloc: Global, words: &str) -> Result<String, AllocError> {
     String::from_str(alloc, words)
 }

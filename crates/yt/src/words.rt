@@ -11,7 +11,7 @@ use ws_words::{Words, curator_of, time_of};
 #[derive(Drop)]
 pub struct Given {
     pub words: Vec<String>,
-    /// The number of the first that is not UTF-8, from 1. In `words` it is as much of it as can be read.
+    /// The number of the first word that is not UTF-8, from 1. In `words` its wrong bytes are replaced.
     pub unread: Option<usize>,
 }
 
@@ -58,7 +58,7 @@ impl Given {
     }
 }
 
-// A variable of the environment; empty if it is not set, or no text.
+// A variable of the environment; empty if it is not set or not UTF-8.
 fn variable(rt: &HostRuntime, name: &str) -> Result<String, Memory> {
     match env::var(rt, name) {
         Ok(value) => Ok(value),
@@ -67,7 +67,7 @@ fn variable(rt: &HostRuntime, name: &str) -> Result<String, Memory> {
     }
 }
 
-/// Who speaks: `--as`, or `YT_CURATOR`, or `USER`.
+/// Who speaks: the name in `--as`, else in `YT_CURATOR`, else in `USER`.
 pub fn curator(rt: &HostRuntime, words: &Words) -> Result<String, Memory> {
     let alloc = rt.alloc();
     if let Some(name) = &words.curator {
@@ -81,7 +81,7 @@ pub fn curator(rt: &HostRuntime, words: &Words) -> Result<String, Memory> {
     Ok(curator_of(alloc, user.as_str())?)
 }
 
-/// When commands are done: at the time that `YT_TIME` says, or by the clock.
+/// The time of commands: fixed by `YT_TIME`, or that of the clock.
 #[derive(Drop)]
 pub enum Time {
     Fixed(String),
@@ -90,7 +90,7 @@ pub enum Time {
     Wrong,
 }
 
-/// What `YT_TIME` says.
+/// The time that `YT_TIME` gives.
 pub fn said_time(rt: &HostRuntime) -> Result<Time, Memory> {
     match env::var(rt, "YT_TIME") {
         Ok(set) => Ok(time_in(set)),
@@ -100,7 +100,7 @@ pub fn said_time(rt: &HostRuntime) -> Result<Time, Memory> {
     }
 }
 
-// What is said by the variable, which may be empty.
+// The time that the variable's text gives; an empty text means the clock.
 fn time_in(set: String) -> Time {
     if set.is_empty() {
         return Time::Clock;
@@ -121,7 +121,7 @@ impl Time {
     }
 }
 
-// The time of the clock; the first moment that it has, if it fails.
+// The time of the clock; the beginning of 1970 if the clock fails.
 fn by_clock(rt: &HostRuntime, alloc: Global) -> Result<String, AllocError> {
     let now = SystemTime::now(rt).unwrap_or(UNIX_EPOCH);
     let seconds = match now.duration_since(UNIX_EPOCH) {
