@@ -4,7 +4,7 @@
 //! The definitions stand in `specs/`. Each function is a law, whose contract is the statement and whose body is empty.
 ghost use Rattle.core_laws.specs.Laws.{TurnLaw, TurnsLaw, DrainedLaw};
 
-/// A turn makes the history longer, and leaves less work; so turns come to an end.
+/// A turn after a legal history leaves a legal history over the same number of updates, and less work; so turns come to an end.
 pub fn turns_lower_the_work()
     ensures { TurnLaw }
 {}
@@ -15,7 +15,8 @@ pub fn turns_keep_the_history()
     ensures { TurnsLaw }
 {}
 
-/// A session that has all its updates admitted and is drained has the result of the serial machine.
+/// A valid session whose base violates no mapping, with all its updates admitted, no live answer and no withdrawal, has the
+/// result of the serial machine once it is drained.
 pub fn drained_sessions_are_serial()
     ensures { DrainedLaw }
 {}

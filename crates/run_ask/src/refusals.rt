@@ -16,7 +16,7 @@ pub enum AskRefusal {
         expected: u16,
         found: u64,
     },
-    /// There was not enough memory.
+    /// There was no memory for it.
     Memory,
 }
 

@@ -61,7 +61,7 @@ abbrev pub updates_from : ℕ → ℕ → ℕ → List SessionUpdate
 updates_from n zero x = []
 updates_from n (suc k) x = update_at n x ∷ updates_from (n + 1) k (after_update x)
 
--- ---- the relations and the mappings, which are those of every drilled session
+-- ---- the relations and the mappings of every drilled session
 
 abbrev pub atom : ℕ → List ℕ → Pattern
 atom r vs = record { relation = r; terms = Rattle.std.specs.Prelude.map Var vs }

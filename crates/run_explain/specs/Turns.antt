@@ -75,6 +75,6 @@ HasNotedTurn ms B n u ns D ns' D' stop =
 abbrev pub HasNotedAll : List Rule → ℕ → List SessionUpdate → Listed Note → List Fact → Listed Note → Type 0
 HasNotedAll ms B us ns D ns' = notes_in ns ++ noted_from ms B D 1 (requests_of us) ≡ notes_in ns'
 
--- The notes are those of the serial machine's steps on the session, with a budget of B steps for each update, that put a tuple.
+-- The notes are of the steps of the serial machine on the session that put a tuple, with a budget of B steps for each update.
 abbrev pub IsNotedRun : ℕ → SessionData → NotedRun → Type 0
 IsNotedRun B s run = notes_in run.notes ≡ notes_of (serial_steps every (rules_of s.mappings) B s.base (turns_of (rules_of s.mappings) B (requests_in s)))

@@ -11,8 +11,8 @@ use base_types::{Memory, TryCopy, Tuple, TupleList};
 use set_facts::PlainFacts;
 use std::alloc::Global;
 
-/// Takes these tuples out of what is sought, and returns those that were there, in order. On an error some of them may be taken
-/// out.
+/// Takes these tuples out of what is sought, and returns the tuples that were there, in order. On an error some of them may be
+/// taken out.
 pub(crate) fn take_out(
     alloc: Global,
     sought: &mut PlainFacts,
@@ -32,7 +32,7 @@ pub(crate) fn take_out(
     Ok(list)
 }
 
-// Takes the tuple out of what is sought, if it is there, and adds it to those that were taken.
+// Takes the tuple out of what is sought, if it is there, and adds it to the tuples that were taken.
 fn take_one(sought: &mut PlainFacts, taken: &mut PlainFacts, tuple: Tuple) -> Result<(), Memory>
     ensures left { OnOk result (sought.new ≡ change sought.old (Delete (fact_of tuple))) }
     ensures taken { OnOk result (taken.new ≡

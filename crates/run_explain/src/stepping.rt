@@ -19,7 +19,7 @@ use std::alloc::Global;
 
 /// Makes one step of the program over the repository of the view, with the answer if the program is at a question, and notes
 /// what it puts. The view has these mappings and the program's direction. It sees the program's own writes, and afterwards also
-/// those of the step. On an error, the program may be within the step.
+/// the writes of the step. On an error the program may be within the step.
 pub(crate) fn step(
     alloc: Global,
     program: &mut Attempt,

@@ -35,7 +35,7 @@ CreateTold size old new before now (Err creating.DiskFault) = (size ≤ PAYLOAD_
 CreateTold size old new before now (Err creating.Memory) = (new ≡ old) ⊎ IsLeft now now.bytes
 
 -- The answer for a commit of `size` bytes: it is too large exactly above the limit, and the journal and the disk are then
--- unchanged. A fault comes only if the disk's count rose; the disk then reads what a crash may leave.
+-- unchanged. A fault comes only if the disk's count of faults rose; the disk then reads what a crash may leave.
 abbrev pub AppendTold : {D : Type 0} → Hold → ℕ → D → D → State → State → Result Hold AppendFault → Type 0
 AppendTold journal size old new before now (Ok next) = size ≤ PAYLOAD_LIMIT
 AppendTold journal size old new before now (Err (appending.TooLarge same bytes)) = (same ≡ journal) × (bytes ≡ size) × (PAYLOAD_LIMIT < size) × (new ≡ old)

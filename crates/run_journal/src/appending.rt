@@ -87,7 +87,7 @@ fn answer(
 /// before that leaves the journal without it, or with it.
 ///
 /// The session must be the one that the journal begins with, and the commit must have the number that comes next. Its writes
-/// are logged in their outer forms, without those that say which mapping is in force; each is of a tuple of the session's
+/// are logged in their outer forms, without the writes that say which mapping is in force; each is of a tuple of the session's
 /// relations.
 pub fn append<D: Disk>(
     alloc: Global,

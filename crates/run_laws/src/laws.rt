@@ -40,7 +40,7 @@ pub fn saved_sessions_are_sessions()
 }
 
 /// If the base of the session meets the mappings, every mapping that is in force at the end of a run holds in the repository
-/// that the run leaves: those in force from the start, and those that an update which is done has put in force.
+/// that the run leaves: a mapping in force from the start, or one that an update which is done has put in force.
 pub fn runs_meet_their_mappings()
     ensures { (budget : ℕ) (s : SessionData) → IsRunnable budget s →
         InForceHold s (serial_told budget s) }

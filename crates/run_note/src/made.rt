@@ -23,7 +23,7 @@ use std::alloc::Global;
 
 /// Makes one step of the program over the repository of the view, with the answer if the program is at a question. Returns its
 /// note, whether or not it puts a tuple. The view has these mappings and the program's direction. It sees the program's own
-/// writes, and afterwards also those of the step. On an error, the program may be within the step.
+/// writes, and afterwards also the writes of the step. On an error the program may be within the step.
 pub fn noted(
     alloc: Global,
     program: &mut Attempt,

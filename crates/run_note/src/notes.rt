@@ -18,7 +18,7 @@ pub enum Way {
     Rewrites(Rewriting),
 }
 
-/// The note of a step: its update and its number there, its way, the tuples that it deleted, and those that it put.
+/// The note of a step: its update and its number there, its way, the tuples that it deleted, and the tuples that it put.
 #[derive(Drop)]
 pub struct Note {
     pub update: u32,

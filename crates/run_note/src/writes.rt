@@ -48,7 +48,7 @@ pub(crate) fn present(
     those(alloc, view, tuples, true)
 }
 
-// The tuples of the list that are seen in the view, or those that are not.
+// The tuples of the list that are seen in the view, or the others.
 fn those(
     alloc: Global,
     view: &mut WatchedView<'_, IndexedFacts>,

@@ -1,4 +1,4 @@
--- The result of a run: of an update that has ended, and of those that are still to come.
+-- The result of a run: of an update that has ended, and of the updates that are still to come.
 use Rattle.std.specs.Prelude.{◌≡◌, ℕ, List, [], ◌∷◌, ◌++◌, map, Option, Some, None}
 use Rattle.def_machine.specs.Serial.{serial}
 use Rattle.def_chase.specs.Values.{Fact}

@@ -54,14 +54,14 @@ fn make_one(facts: &mut IndexedFacts, write: Write) -> Result<(), Memory>
     Ok(())
 }
 
-/// The tuples of the repository in order, without those that say which mappings are in force.
+/// The tuples of the repository in order, without the tuples that say which mappings are in force.
 pub fn told(alloc: Global, facts: IndexedFacts) -> Result<TupleList, Memory>
     ensures told { IfOk result (λ tuples. facts_of tuples ≡ answered facts) }
 {
     Ok(without_force(facts.into_list(alloc)?))
 }
 
-// The tuples without those that say which mappings are in force.
+// The tuples without the ones that say which mappings are in force.
 fn without_force(tuples: TupleList) -> TupleList
     ensures others { facts_of result ≡ answered (facts_of tuples) }
 {

@@ -17,8 +17,8 @@ use set_facts::IndexedFacts;
 use std::alloc::Global;
 
 /// Makes one step of the program over the repository of the view, with the answer if the program is at a question. The view has
-/// these mappings and the program's direction. It sees the program's own writes, and afterwards also those of the step. On an
-/// error, the program may be within the step.
+/// these mappings and the program's direction. It sees the program's own writes, and afterwards also the writes of the step. On
+/// an error, the program may be within the step.
 pub fn step(
     alloc: Global,
     program: &mut Attempt,
@@ -42,8 +42,8 @@ pub fn step(
     see_all(alloc, view, program.own(), seen)
 }
 
-/// Makes the step. The view still sees only the own writes from before it; `see_all` adds those of the step. On an error, the
-/// program may be within the step.
+/// Makes the step. The view still sees only the own writes from before it; `see_all` adds the writes of the step. On an error,
+/// the program may be within the step.
 pub fn make(
     alloc: Global,
     program: &mut Attempt,
@@ -66,7 +66,7 @@ pub fn make(
     answer_all(alloc, program, view, mappings)
 }
 
-/// Lets the view see all of the own writes, of which it has seen the first `seen`. On an error, the view may see some of the
+/// Lets the view see all of the own writes, of which it has seen the first `seen`. On an error the view may see some of the
 /// others.
 pub fn see_all(
     alloc: Global,

@@ -26,7 +26,7 @@ pub struct Form {
     pub empty: Empty,
     /// The words that count as an empty cell.
     pub nulls: Vec<String>,
-    /// The columns that hold texts alone. An empty cell among them is an empty text.
+    /// The columns that hold texts alone. An empty name stands for no column.
     pub texts: Vec<String>,
     /// The columns of the file that are taken, in the order of the relation's columns. None means all, by their names.
     pub columns: Option<Vec<String>>,

@@ -11,7 +11,7 @@ use ws_reply::{Context, Reply, seen_object, seen_text};
 use ws_space::Space;
 use ws_written::Relation;
 
-// The greatest number of updates that wait to be listed.
+// The greatest number of waiting updates that are listed.
 const WAITING: usize = 10;
 
 /// What the workspace has: relations, mappings, the updates that wait, the last update and the last record.

@@ -30,7 +30,7 @@ pub(crate) struct Told {
     pub first: Vec<Lack>,
 }
 
-/// The violations of one mapping, or of all mappings, together with the clashes of keys.
+/// The violations of one mapping; or those of all mappings, and the clashes of keys.
 pub(crate) fn violations(
     alloc: Global,
     space: &Space,

@@ -77,7 +77,7 @@ impl Names {
         self.nulls.get(&name).copied()
     }
 
-    /// The value with the names of its nulls.
+    /// The value by names.
     pub fn value(&self, alloc: Global, value: &Value) -> Result<Value, Memory> {
         match value {
             Value::Null(null) => Ok(Value::Null(self.name_of(*null))),
@@ -86,7 +86,7 @@ impl Names {
         }
     }
 
-    /// The tuple with the names of its nulls.
+    /// The tuple by names.
     pub fn tuple(&self, alloc: Global, tuple: &Tuple) -> Result<Tuple, Memory> {
         if !has_null(tuple) {
             return tuple.share();
@@ -99,7 +99,7 @@ impl Names {
         Tuple::new(alloc, tuple.relation, values)
     }
 
-    /// The tuples with the names of their nulls.
+    /// The tuples by names.
     pub fn tuples(&self, alloc: Global, tuples: &[Tuple]) -> Result<TupleList, Memory> {
         let mut named = TupleList::new(alloc);
         named.reserve(tuples.len())?;

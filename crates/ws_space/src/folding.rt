@@ -69,7 +69,7 @@ impl Space {
         }
     }
 
-    // The mappings of the head, with the names that they have there.
+    // The mappings of the head in the said form, found by their names there.
     fn rules_kept(&self, alloc: Global, numbered: &Numbered) -> Result<Vec<Rule>, Memory> {
         let mut kept = Vec::new(alloc);
         for mapping in numbered.mappings.as_slice() {

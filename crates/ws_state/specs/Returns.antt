@@ -38,7 +38,7 @@ pub record IsBackAt (b : WorldBefore) (v : WhatStands) (w : WhatStands) : Type 0
 pub record LeadsBack (p : Point) (t : State) (u : State) : Type 0 where
   pub stands : (s : State) → IsPointOf s p → HasGoneOn s t → what_stands u.world ≡ what_stands s.world
 
--- -- the latest update
+-- ---- the latest update
 
 -- What is kept before the update of number n runs over w.
 pub record IsKept (w : World) (n : ℕ) (l : Latest) : Type 0 where

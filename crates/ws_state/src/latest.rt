@@ -61,7 +61,7 @@ pub(crate) fn take_latest(
     Some(latest)
 }
 
-// Whether `latest` can be taken back alone.
+// Whether `take_latest` may return `latest`.
 #[tactic(auto, using(crate::proofs::Returning::not_again, crate::proofs::Returning::not_fewer))]
 fn is_meant(latest: &Latest, numbers: &NumberList, waiting: usize, redeclared: bool) -> bool
     ensures meant { numbers.now.items ≡ latest.now.number ∷ [] → latest.now.waiting ≤ waiting

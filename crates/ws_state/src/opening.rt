@@ -122,7 +122,7 @@ fn first_numbers(alloc: Global, count: usize) -> Result<List<u16>, Memory> {
     Ok(numbers)
 }
 
-// The unknown listed at place j is the null of update 0 and place j.
+// The j-th unknown that is listed is the null of update 0 and place j.
 fn names_of(alloc: Global, unknowns: &List<Null>) -> Result<Names, OpenFault> {
     let mut names = Names::new(alloc);
     let mut place: u32 = 0;

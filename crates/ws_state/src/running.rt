@@ -133,7 +133,7 @@ impl World {
         Ok(reason)
     }
 
-    /// Runs an update that waits again, with the answers that fit.
+    /// Runs a waiting update again, with the answers that fit.
     #[tactic(auto, using(crate::proofs::Staying::same_on, crate::proofs::Staying::same_then_on))]
     pub fn retry(
         &mut self,

@@ -80,8 +80,8 @@ fn is_idle(alloc: Global, update: &Update) -> Result<bool, Memory> {
     }
 }
 
-/// Replaces a tuple by another. It is refused unless exactly one tuple fits the first pattern and is there, or if an unknown is
-/// not there.
+/// Replaces a tuple by another. It is refused if not exactly one tuple fits the first pattern, if that tuple is not there, or if
+/// an unknown is not there.
 pub fn replace(
     alloc: Global,
     space: &mut Space,

@@ -81,7 +81,7 @@ fn seconds_of(wait: Option<&str>) -> Option<u32> {
     text.parse::<u32>().ok()
 }
 
-// Whether the name of `--as` is a curator's name, if there is one.
+// Whether the name of `--as` can be a curator's name; true if there is none.
 fn is_curator(name: Option<&str>) -> bool {
     match name {
         Some(name) => is_name(name),

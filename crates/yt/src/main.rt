@@ -1,8 +1,8 @@
 //! `yt`: a shared workspace in one file.
 //!
 //! The words give the file, who speaks, and one command; without a command, each line of standard input is a command. The status
-//! is that of the command. A script has the first status that stops it, or would stop it without `--keep-going`; if there is
-//! none, it says whether something waits.
+//! is that of the command. A script has the first status that stops it, or would stop it without `--keep-going`. If there is
+//! none, it is `Waits` if a change waited and an update still waits, else `Done`.
 #![tactic(auto)]
 
 mod feeding;
