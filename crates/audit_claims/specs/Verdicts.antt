@@ -66,12 +66,12 @@ pub record IsHistory (g : Ground) (H : List PlainEntry) : Type 0 where
   pub legal : IsLegalOver g H
   pub first : AdmitsFirst g H
 
--- The line is the one of the entry, and claims its event.
+-- The line is the entry's, and claims its event.
 pub record IsLineOf (relations : List RelationSchema) (line : List ℕ) (e : PlainEntry) : Type 0 where
   pub text : line ++ 10 ∷ [] ≡ entry_line relations e
   pub tells : Tells relations line (told_by e)
 
--- The lines are the ones of the entries, one for each.
+-- The lines are the entries', one for each.
 abbrev pub AreLinesOf : List RelationSchema → List (List ℕ) → List PlainEntry → Type 0
 AreLinesOf relations [] [] = Unit {0}
 AreLinesOf relations [] (e ∷ H) = ⊥

@@ -88,7 +88,7 @@ AreUnmet ms c relations (r ∷ rs) = (may_conflict ms c relations r ≡ false) �
 
 -- ---- dependences
 
--- The relations are the ones of the members' writes.
+-- The relations are exactly the relations of the members' writes.
 abbrev pub AreTold : Losses → Type 0
 AreTold l = (p : ℕ → Bool) → list_any p l.relations.items ≡ list_any (λ m. any_of p (writes_of m)) l.members.items
 

@@ -8,7 +8,7 @@ use Rattle.def_steps.specs.Chase.{relation_of}
 abbrev pub any_of : (ℕ → Bool) → List Change → Bool
 any_of p ws = list_any (λ w. p (relation_of w)) ws
 
--- The relations are the ones of these writes, in any order.
+-- The relations are exactly the relations of these writes, in any order.
 abbrev pub AreRelationsOf : List Change → List ℕ → Type 0
 AreRelationsOf ws rs = (p : ℕ → Bool) → list_any p rs ≡ any_of p ws
 
@@ -16,6 +16,6 @@ AreRelationsOf ws rs = (p : ℕ → Bool) → list_any p rs ≡ any_of p ws
 abbrev pub HasOneMore : List ℕ → ℕ → List ℕ → Type 0
 HasOneMore old r new = (p : ℕ → Bool) → list_any p new ≡ (list_any p old || p r)
 
--- The new relations are the old ones and the ones of the writes.
+-- The new relations are the old ones and the relations of the writes.
 abbrev pub HasMore : List ℕ → List Change → List ℕ → Type 0
 HasMore old ws new = (p : ℕ → Bool) → list_any p new ≡ (list_any p old || any_of p ws)

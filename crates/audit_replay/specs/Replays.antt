@@ -42,14 +42,14 @@ pub record IsReplayOf (g : Ground) (H : List PlainEntry) (r : Replay) : Type 0 w
   pub levels : StandOn g.base r.updates.items height r.levels
   pub few : length r.handed.now ≤ 1000
 
--- The replay is one of some history.
+-- The replay has replayed some history.
 pub record IsReplay (r : Replay) : Type 0 where
   pub over : Ground
   pub history : List PlainEntry
   pub replays : IsReplayOf over history r
 
--- The replay is of the same session by the same terms, and its audited updates are the ones of updates 1, 2, .. between two
--- steps. Its history is left open.
+-- The replay is of the same session by the same terms, and its audited updates are updates 1, 2, .. between two steps. Its
+-- history is left open.
 pub record IsLeftOf (old new : Replay) : Type 0 where
   pub mappings : new.mappings ≡ old.mappings
   pub budget : new.budget ≡ old.budget

@@ -41,8 +41,8 @@ pub(crate) fn causes_of_loss(
 }
 
 /// The causes of the restarts after the update `number`, below the updates `upper`, has just made `writes`, the last of its
-/// trail: the conflicts, and then the dependences on the updates in conflict. The uppermost level lies below update `number`,
-/// before the call and after it.
+/// trail. First come the conflicts, then the dependences on the updates in conflict. The uppermost level lies below update
+/// `number`, before the call and after it.
 pub(crate) fn causes_of_writes(
     alloc: Global,
     levels: &mut Levels,

@@ -55,7 +55,7 @@ impl Levels {
     }
 
     /// Puts one more level above the others: the uppermost one with these writes made. After an error the levels are of no use
-    /// any more: their number is as before, but not their tuples.
+    /// any more: their number is as before, but their tuples are unknown.
     pub fn rise(&mut self, alloc: Global, writes: &[Write]) -> Result<(), Memory>
         ensures raised { OnOk result (self.new ≡ raised self.old (map change_of writes.now)) }
         ensures err { OnErr result (AreAsMany self.old self.new) }

@@ -29,12 +29,12 @@ module _ (ms : List Rule) (B : ℕ) where
   abbrev pub updates_of : List AuditedUpdate → List (Update (caused_chase ms B))
   updates_of rs = map update_of rs
 
--- The audited update is the one of update n, and between two steps.
+-- The audited update stands for update n, between two steps.
 pub record StandsAt (n : ℕ) (r : AuditedUpdate) : Type 0 where
   pub number : r.program.attempt.number ≡ n
   pub between : r.program.reading ≡ None
 
--- The audited updates are the ones of updates n, n + 1, .., each between two steps.
+-- The audited updates stand for updates n, n + 1, .., each between two steps.
 abbrev pub AreFrom : ℕ → List AuditedUpdate → Type 0
 AreFrom n [] = Unit {0}
 AreFrom n (r ∷ rs) = StandsAt n r × AreFrom (suc n) rs

@@ -16,13 +16,13 @@ use Rattle.audit_verdict.specs.declared.verdicts.Why.{Why}
 abbrev pub AreAdmitted : Ground → List PlainEntry → Type 0
 AreAdmitted g H = length (updates_after g H) ≡ min (length H) (length g.requests)
 
--- The entries are a history whose admissions come first, and the replay is one of them.
+-- The entries are a history whose admissions come first, and the replay has replayed them.
 pub record Replays (g : Ground) (H : List PlainEntry) (r : Replay) : Type 0 where
   pub history : IsHistory g H
   pub admitted : AreAdmitted g H
   pub replay : IsReplayOf g H r
 
--- The lines are the ones of a history, and the replay is one of it.
+-- The lines are the text of a history, which the replay has replayed.
 pub record Stands (t : Trial) (lines : List (List ℕ)) (r : Replay) : Type 0 where
   pub H : List PlainEntry
   pub replays : Replays t.over H r

@@ -14,15 +14,15 @@ pub enum Why {
     Effect,
 }
 
-/// The verdict on a trace: it is the text of a legal history with `entries` entries, after which nothing is left to do if
-/// `quiet`; or `line`, from 1, is the first line at fault.
+/// The verdict on a trace. `Yes`: it is the text of a legal history with `entries` entries, after which nothing is left to do if
+/// `quiet`. `No`: the first line at fault is `line`, from 1.
 #[derive(Clone, Copy, Debug, PartialEq, Eq)]
 pub enum Verdict {
     Yes { entries: u64, quiet: bool },
     No { line: u64, why: Why },
 }
 
-/// The line that says the verdict, without its line feed.
+/// The line with the verdict, without its line feed.
 pub fn verdict_line(alloc: Global, verdict: Verdict) -> Result<Vec<u8>, Memory>
     ensures line { IfOk result (λ line. line.items ≡ verdict_text (verdict_of verdict)) }
 {

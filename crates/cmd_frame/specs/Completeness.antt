@@ -7,8 +7,8 @@ use Rattle.cmd_frame.specs.declared.performing.TheConstants.{INPUT_LIMIT}
 use Rattle.cmd_frame.specs.declared.statuses.Status.{Status}
 use Rattle.cmd_frame.specs.declared.statuses.Status.TheVariants.{OutOfMemory}
 
--- If the source has this input within the limit, all outputs that the command may make of it have one status, and neither the
--- source nor `out` failed, then the run ends with that status or for want of memory.
+-- The source has this input within the limit, all outputs that the command may make of it have one status, and neither the source
+-- nor `out` failed. Then the run ends with that status or for want of memory.
 abbrev pub IsComplete : Status → Meaning → Change → Change → Type 0
 IsComplete status gives source out =
     (input : List ℕ) (due : Status) → source.bytes ≡ Some input → length input ≤ INPUT_LIMIT

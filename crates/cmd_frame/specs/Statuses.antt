@@ -56,7 +56,7 @@ status_of_failure failures.WriteFault = WriteFault
 status_of_failure failures.OutOfMemory = OutOfMemory
 status_of_failure failures.TooLong = TooLong
 
--- the line that says a failure
+-- the line for a failure
 abbrev pub line_of : Failure → List ℕ
 line_of failures.Usage = codes "youtopia: usage: youtopia COMMAND [OPTIONS]\n"
 line_of failures.ReadFault = codes "youtopia: read fault\n"

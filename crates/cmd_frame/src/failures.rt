@@ -22,7 +22,7 @@ pub enum Failure {
 }
 
 impl Failure {
-    /// The line for `err` that says it, with its line feed.
+    /// The line for `err` that names the failure, with its line feed.
     pub fn line(self) -> &'static [u8]
         ensures { result.now ≡ line_of self }
     {

@@ -31,7 +31,7 @@ IsJudged budget c s trace output = (v : Verdict) × IsVerdict (trial_of s budget
 abbrev pub own_result : ℕ → SessionData → List ℕ
 own_result budget s = result_text s (serial_told budget s)
 
--- What follows the session begins with a result text, which is the one of its run; then, which is another one.
+-- What follows the session begins with the result text of its run; then, with another result text.
 abbrev pub HasOwnResult : ℕ → SessionData → List ℕ → Type 0
 HasOwnResult budget s rest = IsResult rest × (result_in rest ≡ own_result budget s)
 

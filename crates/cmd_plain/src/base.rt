@@ -118,7 +118,7 @@ fn push_tuples(
     }
 }
 
-// The line that says a violation of the base.
+// The line for a violation of the base.
 fn base_line(alloc: Global, schema: &Schema, violated: &Violated<'_>) -> Result<Vec<u8>, Memory>
     ensures { IfOk result (λ line. line.items ≡ base_line schema.now (violated_of violated.now)) }
 {
@@ -131,7 +131,7 @@ fn base_line(alloc: Global, schema: &Schema, violated: &Violated<'_>) -> Result<
     Ok(line)
 }
 
-/// The refusal that says a violation of the base.
+/// The refusal for a violation of the base.
 pub fn base_refusal(
     alloc: Global,
     schema: &Schema,

@@ -16,9 +16,9 @@ use def_language::spelled_sessions_are_valid;
 use run_journal::{damaged_bytes_are_no_journal, inputs_are_journals_or_damaged};
 use run_laws::runs_meet_their_mappings;
 
-/// For a valid session whose base meets its mappings, `serial` writes a repository in which every mapping in force holds: those
-/// in force from the start, and those that a done update has put in force. It ends with status 0, or stops at a question with
-/// status 1.
+/// For a valid session whose base meets its mappings, `serial` writes a repository in which every mapping in force holds. A
+/// mapping is in force from the start, or since an update that adds it is done. It ends with status 0, or stops at a question
+/// with status 1.
 pub fn runs_write_what_holds()
     ensures written { (steps : ℕ) (s : SessionData) → IsRunnable steps s → WritesWhatHolds steps s }
     ensures status { (steps : ℕ) (s : SessionData) → IsRunnable steps s → EndsOrStops steps s }

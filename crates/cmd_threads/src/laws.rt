@@ -29,7 +29,7 @@ pub fn runs_have_the_serial_status()
 {}
 
 /// If `run`, with a valid budget, ends or stops at a question, it has written the result text of the serial machine's result on
-/// the session, followed, if it was asked for, by the trace of one of its histories. Every mapping in force holds in the
+/// the session. If it was asked for, the trace of one of the session's histories follows. Every mapping in force holds in the
 /// repository of that result.
 pub fn performed_runs_write_their_trace()
     ensures { (trace : Bool) (steps : ℕ) (c : Settings) (status : Status)

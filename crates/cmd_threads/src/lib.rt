@@ -1,7 +1,7 @@
 //! The commands `run` and `drill`: workers run a session's updates, and the result is printed.
 //!
 //! `specs/Runs.antt` says what `run` makes of a session: whatever the schedule of the workers, the result text of the serial
-//! machine, followed, if the trace is asked for, by the text of a history that the workers may make.
+//! machine. If the trace is asked for, the text of a history that the workers may make follows.
 #![tactic(auto)]
 
 mod crews;

@@ -37,7 +37,7 @@ pub enum CommandName {
 /// Which writes a read is taken to depend on.
 #[derive(Clone, Copy, Debug, PartialEq, Eq)]
 pub enum Deps {
-    /// All writes to the relations that it reads.
+    /// All writes to the relations that it mentions.
     Coarse,
     /// The writes that change its value.
     Precise,

@@ -1,4 +1,4 @@
-// The desk: a board behind a lock, as a bench.
+// The desk: a board inside a lock, as a bench.
 use crate::board::{Board, Ticket};
 use def_memory::Memory;
 use std::sync::Wait;
@@ -6,7 +6,7 @@ use std::time::Clock;
 use work_lock::{Seat, StampLock};
 use work_loop::{Bench, Offer, Received};
 
-/// A board behind a lock.
+/// A board inside a lock.
 pub struct Desk {
     pub lock: StampLock<Board>,
 }

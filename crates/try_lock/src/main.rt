@@ -1,8 +1,8 @@
 //! Workers at one board: real threads take numbered tickets from a board inside a lock, until every ticket has come back.
 //!
 //! The board is the smallest bench that shows `work_lock` and `work_loop` at work. With no words the program runs two seats,
-//! eight, and one, and prints the same each time: with two seats or more the gate sees tickets 1 and 2 in work at once, with one
-//! it cannot. With the words SEATS and TURNS each of SEATS seats only takes TURNS turns, to be timed from outside.
+//! eight, and one, and always prints the same text. With two seats or more the gate sees tickets 1 and 2 in work at once, with
+//! one it cannot. With the words SEATS and TURNS each of SEATS seats only takes TURNS turns, to be timed from outside.
 #![tactic(auto)]
 
 ghost use Rattle.std.specs.Prelude.{◌≤◌};

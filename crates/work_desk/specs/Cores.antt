@@ -40,7 +40,8 @@ pub record HoldsSince (holds : Ground → List PlainEntry → ℕ → Type 0) (g
   pub then : holds g (take n H) u
   pub spared : AllSpare {M = machine g} u (drop n (entries_over g H))
 
--- For every update, what was true after the first n entries and is not followed by its step or withdrawal is still true.
+-- For every update: if the fact was true after the first n entries, and no later entry is the update's step or withdrawal, it is
+-- still true.
 abbrev pub StaysSince : (Ground → List PlainEntry → ℕ → Type 0) → Ground → List PlainEntry → ℕ → Type 0
 StaysSince holds g H n = (u : ℕ) → HoldsSince holds g H n u → holds g H u
 

@@ -82,8 +82,8 @@ module _ {S : Type 0} where
   finish_added j t n (Ok (Stale e)) = back_items (ticket_for j t)
   finish_added j t n (Err e) = []
 
-  -- `finish` of the seat j with the ticket turns the items xs into ys: `question` gives the first entry by which the plan is
-  -- stale, and `planned` holds of the updates and states whose step the plan is.
+  -- `finish` of the seat j with the ticket turns the items xs into ys. `question` gives the first entry by which the plan is
+  -- stale; `planned` holds of the updates and states whose step the plan is.
   pub record HasFinished {E : Type 0} (question : List PlainEntry → Option ℕ) (planned : Ground → List PlainEntry → ℕ → Type 0) (j : ℕ) (g : Ground) (t : Ticket S) (r : Result Finished E) (ys xs : Items) : Type 0 where
     pub now : Now (machine g)
     pub adds : Adds j g xs ys now (finish_added j t now r)

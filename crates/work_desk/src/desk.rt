@@ -1,4 +1,4 @@
-//! A desk: a board behind a lock with turns.
+//! A desk: a board inside a lock with turns.
 ghost use Rattle.std.specs.Prelude.{◌≡◌, ◌<◌, ◌≤◌, length, IfOk, IfErr};
 
 use crate::board::Board;

@@ -11,8 +11,9 @@ use work_desk::{Core, Desk};
 use work_loop::{Gate, work_all};
 
 /// Runs the core by `seats` workers, from 1 to 16, each in a thread of its own, until nothing is left to do, and gives the core.
-/// If a thread cannot be made, the calling thread works in its place. Whatever the schedule, the core's history then has the
-/// serial machine's result on the whole session. If memory runs out, the core comes back as the workers left it.
+/// If a thread cannot be made, the calling thread works in its place. If all updates of the session were admitted before, the
+/// core's history then has the serial machine's result, whatever the schedule. If memory runs out, the core comes back as the
+/// workers left it.
 pub fn run<R: Threads + Wait + Clock + Sync, G: Gate + Sync, C: Core + Send>(
     rt: &R,
     gate: &G,

@@ -11,8 +11,9 @@ pub fn ready_attempts_do_their_update()
     ensures { ReadyAttemptsDoTheirUpdate }
 {}
 
-/// A step that was planned after the first entries of a history is still the update's step, if none of the later entries is a
-/// step or a withdrawal of the update, and none makes the step stale by its reads. Of the reads only their queries matter.
+/// A step that was planned after the first entries of a history may still be the update's step after the later ones. It is, if
+/// none of these is a step or a withdrawal of the update, and none makes the step stale by its reads. Of the reads only their
+/// queries matter.
 pub fn steps_stay_unless_stale()
     ensures { StepsStayUnlessStale }
 {}

@@ -106,7 +106,7 @@ IsRun Serial = Unit {0}
 IsRun command = ⊥
 
 -- what these commands have written: the result text of the serial machine's result, in whose repository every mapping in force
--- holds, and for `run`, if it is asked for, the trace after it
+-- holds; for `run` the trace follows, if it is asked for
 abbrev pub Wrote : CommandName → Options → Change → Change → Type 0
 Wrote Run options source out = WroteRun options.trace options.steps (settings_in options) source out
 Wrote command options source out = WroteWhatHolds options.steps source out
@@ -134,8 +134,8 @@ pub record WritesSerially (options : Options) (s : SessionData) (status : Status
   -- get one name
   pub nulls : NamesNulls s options.steps (settings_in options) history
 
--- The headline. If the words of `run` are accepted, the input spells a session whose base meets its mappings, and nothing fails,
--- then, whatever the schedule of the workers, this is written, or the status is `OutOfMemory`.
+-- The headline. The words of `run` are accepted, the input spells a session whose base meets its mappings, and nothing fails.
+-- Then, whatever the schedule of the workers, this is written, or the status is `OutOfMemory`.
 abbrev pub Headline : List Letters → Status → Change → Change → Type 0
 Headline words status source out =
     (options : Options) (input : List ℕ) (s : SessionData) → Answers words (Command options) → options.command ≡ Run

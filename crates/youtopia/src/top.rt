@@ -71,8 +71,8 @@ fn answer<R: Threads + Wait + Clock + Sync, G: Gate + Sync, S: Source, O: Sink, 
 /// Whatever the schedule of the workers, `run` writes the serial machine's result on the session that it read. The trace, if it
 /// is asked for, is the text of a legal history that ends quiet. `drill` reads nothing, and writes the summary of the serial
 /// machine's result on the session that it generates. If no device fails, the status is the one of the output that is due, or
-/// `OutOfMemory`. If the base of the session meets its mappings, a run ends, or stops at a question. In the repository that it
-/// writes every mapping in force holds.
+/// `OutOfMemory`. For a session whose base meets its mappings, the output due of a run ends, or stops at a question. In the
+/// repository that a run writes every mapping in force holds.
 pub fn youtopia<R: Threads + Wait + Clock + Sync, G: Gate + Sync, S: Source, O: Sink, E: Sink>(
     rt: &R,
     alloc: Global,
