@@ -13,7 +13,7 @@ mod answering;
 mod answers;
 mod cores;
 mod deliveries;
-mod delivering;
+mod delivery;
 mod draining;
 mod known;
 mod lives;
