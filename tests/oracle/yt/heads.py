@@ -22,11 +22,17 @@ class Heads:
             item = self.waiting[n]
             out.append("waits %s %s %s" % (item.time, item.curator, item_line(self.schema, item)))
             for (m, v, image), p in sorted(item.places.items(), key=lambda x: x[1]):
+                if self.is_gone(m):
+                    continue
                 seen = image if image[0][0] < WANT else () if m != "_new" else image[0][1]
                 out.append("drew %d %d %s %s%s" % (n, p, m, v, "" if not seen else " " + (
                     T.show_value(seen[0]) if m == "_new" else ", ".join(T.show_fact(self.schema, t) for t in seen))))
-            out += [answer_line(self.schema, n, a, key) for a, key in item.answers]
+            out += [answer_line(self.schema, n, a, key) for a, key in item.answers if not key or not self.is_gone(key[0])]
         return out + ["end"]
+
+    def is_gone(self, name):
+        """Whether a question or an unknown came by a mapping that was dropped."""
+        return name.removeprefix("_fix_") in self.gone
 
     def read_head(self, payload):
         lines = payload.decode().split("\n")

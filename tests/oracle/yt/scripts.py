@@ -22,8 +22,9 @@ FAULTS = ["insert Paintings(1, 2)", "insert Painting(1)", "insert Painting(1, x)
 class Writer:
     """Draws commands over the workspace as it stands, and does each."""
 
-    def __init__(self, rng, workspace):
+    def __init__(self, rng, workspace, others=3):
         self.rng, self.workspace = rng, workspace
+        self.others = others        # the weight of folds, drops, `--still` and `try undo` among the lines
         self.lines = []
 
     @property
@@ -113,15 +114,16 @@ class Writer:
 
     def line(self):
         kinds = [(self.insert, 26), (self.delete, 10), (self.replace, 8), (self.mapping, 9), (self.answer, 14), (self.undo, 10),
-                 (self.look, 12), (self.other, 3), (lambda: self.rng.choice(FAULTS), 4)]
+                 (self.look, 12), (self.other, self.others), (lambda: self.rng.choice(FAULTS), 4)]
         line = self.rng.choices([kind for kind, _ in kinds], [weight for _, weight in kinds])[0]()
         return "try " + line if line.split()[0] in T.CHANGES - {"fold"} and self.rng.random() < 0.08 else line
 
 
 def random_script(seed, workspace):
-    """The lines of a script, done one after the other by this workspace, whose file is not there yet."""
+    """The lines of a script, done one after the other by this workspace, whose file is not there yet. Many lines of an odd seed from
+    1,000,001 on fold and drop."""
     rng = random.Random(seed)
-    writer = Writer(rng, workspace)
+    writer = Writer(rng, workspace, 25 if seed > 1000000 and seed % 2 else 3)
     writer.begin()
     for _ in range(rng.choice([10, 20, 40])):
         writer.say(writer.line())
