@@ -1,5 +1,5 @@
 // A log that is in hand, and a log at rest.
-ghost use Rattle.std.specs.Prelude.{◌≡◌, ◌++◌, ◌∷◌, [], ℕ, List, IfOk};
+ghost use Rattle.std.specs.Prelude.{◌≡◌, ◌++◌, ◌∷◌, [], ℕ, List, drop, IfOk};
 ghost use Rattle.ws_file.specs.Files.{bytes_of, state_of};
 ghost use Rattle.base_roll.specs.Rolls.{IsInHand};
 ghost use Rattle.base_devices.specs.States.{IsSettled};
@@ -55,6 +55,7 @@ pub(crate) fn from_gate(disk: FileDisk, gate: usize, mark: Mark) -> Result<Log<F
     ensures hand { IfOk result (λ log.
         IsInHand (state_of log.disk) (record { gate = log.gate })) }
     ensures marked { IfOk result (λ log. log.mark ≡ mark) }
+    ensures rest { IfOk result (λ log. bytes_of log.disk ≡ drop gate (bytes_of disk)) }
 {
     let disk = disk.from_place(gate)?;
     Ok(Log {
