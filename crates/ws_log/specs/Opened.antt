@@ -39,8 +39,11 @@ pub record IsTail (last bytes : List ℕ) (opened : Opened) : Type 0 where
 abbrev pub IsOpened : Opened → Type 0
 IsOpened opened = (bytes : List ℕ) × IsWhole bytes opened
 
--- There are bytes that were read so: of the same file those after the texts that the process knew, of which the last has this mark;
--- of another file all.
+-- there are bytes that were read so, those of the file after the text with this mark
+abbrev pub IsReadOn : List ℕ → Opened → Type 0
+IsReadOn last opened = (bytes : List ℕ) × IsTail last bytes opened
+
+-- the same file was read on after the text with this mark, or another one from its head on
 abbrev pub IsReadAgain : List ℕ → Reopened → Type 0
-IsReadAgain last (Same opened) = (bytes : List ℕ) × IsTail last bytes opened
+IsReadAgain last (Same opened) = IsReadOn last opened
 IsReadAgain last (Another opened) = IsOpened opened

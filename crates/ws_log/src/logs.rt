@@ -102,7 +102,10 @@ impl OpenLog {
     }
 
     /// Releases the lock. The file stays open, so that a fold by another process is noticed.
-    pub fn release(self) -> Result<RestingLog, Fault> {
+    pub fn release(self) -> Result<RestingLog, Fault>
+        ensures marked { IfOk result (λ resting. resting.mark.digits ≡ self.mark) }
+        ensures counted { IfOk result (λ resting. resting.count ≡ self.count) }
+    {
         let OpenLog { log, count } = self;
         let Log { disk, gate, mark } = log;
         let place = disk.base().saturating_add(gate as u64);

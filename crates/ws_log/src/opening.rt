@@ -1,10 +1,10 @@
 // Opening a log, and reading it on.
-ghost use Rattle.std.specs.Prelude.{ℕ, List, IfOk};
+ghost use Rattle.std.specs.Prelude.{IfOk};
 ghost use Rattle.base_devices.specs.States.{IsSettled};
 ghost use Rattle.ws_file.specs.Files.{bytes_of, state_of};
 ghost use Rattle.ws_seal.specs.Logs.{HasGateAt};
 ghost use Rattle.ws_log.specs.Held.{IsFresh};
-ghost use Rattle.ws_log.specs.Opened.{HandsOn, IsOpened, IsReadAgain, IsReopened, IsTail, IsWhole};
+ghost use Rattle.ws_log.specs.Opened.{HandsOn, IsOpened, IsReadAgain, IsReadOn, IsReopened, IsTail, IsWhole};
 
 use crate::faults::{Fault, not_read};
 use crate::logs::{OpenLog, RestingLog, from_gate};
@@ -99,8 +99,7 @@ fn whole_of(alloc: Global, disk: FileDisk) -> Result<Opened, Fault>
 
 fn read_new(alloc: Global, locked: Locked, resting: RestingLog) -> Result<Opened, Fault>
     ensures fresh { IfOk result (λ opened. IsFresh opened.log) }
-    ensures read { IfOk result (λ opened. (bytes : List ℕ)
-        × IsTail resting.mark.digits bytes opened) }
+    ensures read { IfOk result (IsReadOn resting.mark.digits) }
 {
     let disk = locked.read_from(alloc, resting.place)?;
     let opened = tail_of(alloc, disk, resting.mark, resting.count)?;
