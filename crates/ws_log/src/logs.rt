@@ -1,5 +1,5 @@
 // A log that is in hand, and a log at rest.
-ghost use Rattle.std.specs.Prelude.{◌≡◌, ◌++◌, ◌∷◌, [], ℕ, List, IfOk};
+ghost use Rattle.std.specs.Prelude.{◌≡◌, ◌++◌, ◌∷◌, [], ℕ, List, drop, IfOk};
 ghost use Rattle.ws_file.specs.Files.{bytes_of, state_of};
 ghost use Rattle.base_roll.specs.Rolls.{IsInHand};
 ghost use Rattle.base_devices.specs.States.{IsSettled};
@@ -55,6 +55,7 @@ pub(crate) fn from_gate(disk: FileDisk, gate: usize, mark: Mark) -> Result<Log<F
     ensures hand { IfOk result (λ log.
         IsInHand (state_of log.disk) (record { gate = log.gate })) }
     ensures marked { IfOk result (λ log. log.mark ≡ mark) }
+    ensures rest { IfOk result (λ log. bytes_of log.disk ≡ drop gate (bytes_of disk)) }
 {
     let disk = disk.from_place(gate)?;
     Ok(Log {
@@ -101,7 +102,10 @@ impl OpenLog {
     }
 
     /// Releases the lock. The file stays open, so that a fold by another process is noticed.
-    pub fn release(self) -> Result<RestingLog, Fault> {
+    pub fn release(self) -> Result<RestingLog, Fault>
+        ensures marked { IfOk result (λ resting. resting.mark.digits ≡ self.mark) }
+        ensures counted { IfOk result (λ resting. resting.count ≡ self.count) }
+    {
         let OpenLog { log, count } = self;
         let Log { disk, gate, mark } = log;
         let place = disk.base().saturating_add(gate as u64);

@@ -1,8 +1,9 @@
 // Creating a log, and folding one.
-ghost use Rattle.std.specs.Prelude.{◌≡◌, [], IfOk};
-ghost use Rattle.ws_file.specs.Files.{just_opened};
+ghost use Rattle.std.specs.Prelude.{◌≡◌, [], drop, map, IfOk};
+ghost use Rattle.base_devices.specs.States.{IsSettled};
+ghost use Rattle.ws_file.specs.Files.{bytes_of, just_opened, state_of};
 ghost use Rattle.ws_seal.specs.Logs.{HasGateAt};
-ghost use Rattle.ws_log.specs.Held.{IsFresh};
+ghost use Rattle.ws_log.specs.Held.{IsFresh, IsMadeOf};
 
 use crate::faults::{Fault, not_written};
 use crate::logs::{OpenLog, from_gate};
@@ -18,7 +19,8 @@ pub fn create(
     head: &[u8],
     texts: &[Vec<u8>],
 ) -> Result<OpenLog, Fault>
-    ensures { IfOk result IsFresh }
+    ensures fresh { IfOk result IsFresh }
+    ensures made { IfOk result (IsMadeOf head.now (map (λ v. v.items) texts.now)) }
 {
     let (made, log) = made_log(rt, path, head, texts)?;
     made.publish(rt, path)?;
@@ -29,7 +31,8 @@ pub fn create(
 /// synced, so a crash leaves one log or the other. At `Ok` the new log is in hand. If the path is a link, the file that it leads
 /// to is replaced.
 pub fn fold(rt: &HostRuntime, path: &str, old: OpenLog, head: &[u8]) -> Result<OpenLog, Fault>
-    ensures { IfOk result IsFresh }
+    ensures fresh { IfOk result IsFresh }
+    ensures made { IfOk result (IsMadeOf head.now []) }
 {
     match Path::new(path).canonicalize(rt) {
         Ok(file) => replaced(rt, file.as_str(), old, head),
@@ -39,7 +42,8 @@ pub fn fold(rt: &HostRuntime, path: &str, old: OpenLog, head: &[u8]) -> Result<O
 
 // Replaces the file of this path. The path is no link, or the link itself would be replaced.
 fn replaced(rt: &HostRuntime, path: &str, old: OpenLog, head: &[u8]) -> Result<OpenLog, Fault>
-    ensures { IfOk result IsFresh }
+    ensures fresh { IfOk result IsFresh }
+    ensures made { IfOk result (IsMadeOf head.now []) }
 {
     let (made, log) = made_log(rt, path, head, &[])?;
     made.replace(rt, path)?;
@@ -54,12 +58,13 @@ fn made_log(
     head: &[u8],
     texts: &[Vec<u8>],
 ) -> Result<(MadeFile, OpenLog), Fault>
-    ensures { IfOk result (λ made. IsFresh made.1) }
+    ensures fresh { IfOk result (λ made. IsFresh made.1) }
+    ensures made { IfOk result (λ made. IsMadeOf head.now (map (λ v. v.items) texts.now) made.1) }
 {
     let text = log_text(rt.alloc(), head, texts)?;
     let (made, disk) = make_beside(rt, path)?;
     let count = (texts.len() as u64).saturating_add(1);
-    match written(disk, &text, count) {
+    match in_hand(disk, &text, count) {
         Ok(log) => Ok((made, log)),
         Err(fault) => {
             made.give_up(rt);
@@ -68,18 +73,29 @@ fn made_log(
     }
 }
 
-// The log of the text on an empty disk, synced.
-fn written(disk: FileDisk, text: &LogText, count: u64) -> Result<OpenLog, Fault>
+// The log of the text in hand, once an empty disk has it.
+fn in_hand(disk: FileDisk, text: &LogText, count: u64) -> Result<OpenLog, Fault>
     requires empty { disk ≡ just_opened 0 [] }
     requires gate { HasGateAt text.now.gate text.now.bytes.items }
-    ensures { IfOk result IsFresh }
+    ensures fresh { IfOk result IsFresh }
+    ensures marked { IfOk result (λ log. log.mark ≡ text.now.mark.digits) }
+    ensures rest { IfOk result (λ log.
+        bytes_of log.disk ≡ drop text.now.gate text.now.bytes.items) }
+{
+    let disk = written(disk, &text.bytes)?;
+    let log = from_gate(disk, text.gate, text.mark)?;
+    Ok(OpenLog::of(log, count))
+}
+
+// The disk, once it has these bytes and no others, and nothing is pending; it was empty.
+fn written(disk: FileDisk, bytes: &[u8]) -> Result<FileDisk, Fault>
+    requires { disk ≡ just_opened 0 [] }
+    ensures bytes { IfOk result (λ disk. bytes_of disk ≡ bytes.now) }
+    ensures lasts { IfOk result (λ disk. IsSettled (state_of disk)) }
 {
     let mut disk = disk;
-    match base_roll::create(&mut disk, &text.bytes) {
-        Ok(()) => {
-            let log = from_gate(disk, text.gate, text.mark)?;
-            Ok(OpenLog::of(log, count))
-        }
+    match base_roll::create(&mut disk, bytes) {
+        Ok(()) => Ok(disk),
         Err(_) => Err(not_written(&disk)),
     }
 }

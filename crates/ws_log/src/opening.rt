@@ -4,14 +4,14 @@ ghost use Rattle.base_devices.specs.States.{IsSettled};
 ghost use Rattle.ws_file.specs.Files.{bytes_of, state_of};
 ghost use Rattle.ws_seal.specs.Logs.{HasGateAt};
 ghost use Rattle.ws_log.specs.Held.{IsFresh};
-ghost use Rattle.ws_log.specs.Opened.{IsReopened};
+ghost use Rattle.ws_log.specs.Opened.{HandsOn, IsOpened, IsReadAgain, IsReadOn, IsReopened, IsTail, IsWhole};
 
 use crate::faults::{Fault, not_read};
 use crate::logs::{OpenLog, RestingLog, from_gate};
 use std::alloc::Global;
 use std::time::Duration;
 use ws_file::{Access, FileDisk, Locked, lock, make_name_last};
-use ws_seal::{Texts, read_log, read_tail};
+use ws_seal::{Mark, Texts, read_log, read_tail};
 
 /// A log in hand, and the texts read from it, in order.
 #[derive(Drop)]
@@ -35,7 +35,8 @@ const FIRST_TEXTS: u64 = 2;
 /// Opens the log in the file: waits for the lock, syncs what the file has, and reads and checks all texts, the head first. It
 /// writes nothing. If `access` is for a change, the file's name is synced too.
 pub fn open(rt: &HostRuntime, path: &str, access: Access, wait: Duration) -> Result<Opened, Fault>
-    ensures { IfOk result (λ opened. IsFresh opened.log) }
+    ensures fresh { IfOk result (λ opened. IsFresh opened.log) }
+    ensures read { IfOk result IsOpened }
 {
     let locked = lock(rt, path, access, wait)?;
     let opened = read_whole(rt.alloc(), locked)?;
@@ -52,7 +53,8 @@ pub fn reopen(
     access: Access,
     wait: Duration,
 ) -> Result<Reopened, Fault>
-    ensures { IfOk result IsReopened }
+    ensures fresh { IfOk result IsReopened }
+    ensures read { IfOk result (IsReadAgain resting.mark.digits) }
 {
     let locked = lock(rt, path, access, wait)?;
     if locked.is(&resting.released)? {
@@ -75,9 +77,20 @@ fn keep_name(rt: &HostRuntime, path: &str, access: Access, log: &OpenLog) -> Res
 }
 
 fn read_whole(alloc: Global, locked: Locked) -> Result<Opened, Fault>
-    ensures { IfOk result (λ opened. IsFresh opened.log) }
+    ensures fresh { IfOk result (λ opened. IsFresh opened.log) }
+    ensures read { IfOk result IsOpened }
 {
-    let mut disk = locked.read_from(alloc, 0)?;
+    let disk = locked.read_from(alloc, 0)?;
+    let opened = whole_of(alloc, disk)?;
+    Ok(opened)
+}
+
+// The log that the disk has, from its head on.
+fn whole_of(alloc: Global, disk: FileDisk) -> Result<Opened, Fault>
+    ensures fresh { IfOk result (λ opened. IsFresh opened.log) }
+    ensures read { IfOk result (IsWhole (bytes_of disk)) }
+{
+    let mut disk = disk;
     match read_log(alloc, &mut disk) {
         Ok(found) => in_hand(disk, found, 0),
         Err(fault) => Err(not_read(&disk, fault, 0)),
@@ -85,12 +98,23 @@ fn read_whole(alloc: Global, locked: Locked) -> Result<Opened, Fault>
 }
 
 fn read_new(alloc: Global, locked: Locked, resting: RestingLog) -> Result<Opened, Fault>
-    ensures { IfOk result (λ opened. IsFresh opened.log) }
+    ensures fresh { IfOk result (λ opened. IsFresh opened.log) }
+    ensures read { IfOk result (IsReadOn resting.mark.digits) }
 {
-    let mut disk = locked.read_from(alloc, resting.place)?;
-    match read_tail(alloc, &mut disk, resting.mark) {
-        Ok(found) => in_hand(disk, found, resting.count),
-        Err(fault) => Err(not_read(&disk, fault, resting.count)),
+    let disk = locked.read_from(alloc, resting.place)?;
+    let opened = tail_of(alloc, disk, resting.mark, resting.count)?;
+    Ok(opened)
+}
+
+// The log that the disk has, after texts of which the last has the mark; `known` is their number.
+fn tail_of(alloc: Global, disk: FileDisk, mark: Mark, known: u64) -> Result<Opened, Fault>
+    ensures fresh { IfOk result (λ opened. IsFresh opened.log) }
+    ensures read { IfOk result (IsTail mark.digits (bytes_of disk)) }
+{
+    let mut disk = disk;
+    match read_tail(alloc, &mut disk, mark) {
+        Ok(found) => in_hand(disk, found, known),
+        Err(fault) => Err(not_read(&disk, fault, known)),
     }
 }
 
@@ -98,7 +122,8 @@ fn read_new(alloc: Global, locked: Locked, resting: RestingLog) -> Result<Opened
 fn in_hand(disk: FileDisk, found: Texts, known: u64) -> Result<Opened, Fault>
     requires gate { HasGateAt found.gate (bytes_of disk) }
     requires settled { IsSettled (state_of disk) }
-    ensures { IfOk result (λ opened. IsFresh opened.log) }
+    ensures fresh { IfOk result (λ opened. IsFresh opened.log) }
+    ensures handed { IfOk result (HandsOn (bytes_of disk) found) }
 {
     let Texts { texts, gate, mark } = found;
     let log = from_gate(disk, gate, mark)?;
