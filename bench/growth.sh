@@ -14,24 +14,26 @@ instructions() {
   valgrind --tool=callgrind --callgrind-out-file=/dev/null "$program" "$@" 2>&1 > /dev/null | sed -n 's/.*Collected : \([0-9]*\).*/\1/p'
 }
 
-# Prints the session of this kind over this base, in format 2, with the first of its updates: first COUNT
+# Prints the session with the first of its updates alone: first COUNT
 first() {
-  awk -v count="$1" '/^youtopia/ { $0 = "youtopia 2" } /^update/ { count-- } /^(update|answer)/ && count < 0 { next } { print }' "$scratch/session"
+  awk -v count="$1" '/^update/ { count-- } /^(update|answer)/ && count < 0 { next } { print }' "$scratch/session"
 }
 
 # Prints the thousands of instructions for each update from one number to another: between FROM TO WORDS..
 between() {
   local from=$1 to=$2
   shift 2
-  echo $((($(first "$to" | instructions "$@") - $(first "$from" | instructions "$@")) / (to - from) / 1000))
+  echo "$(first "$to" | instructions "$@") $(first "$from" | instructions "$@") $((to - from))" | awk '{ printf "%.1f", ($1 - $2) / $3 / 1000 }'
 }
 
 for kind in groups answers; do
   for base in 1000 10000 100000; do
-    python3 "$here/sessions.py" $kind --base $base --updates 2000 | sed '/^update .* delete /d' > "$scratch/session"
+    python3 "$here/sessions.py" $kind --base $base --updates 2000 |
+      sed 's/^youtopia 1/youtopia 2/; /^update .* delete /d' > "$scratch/session"
     for span in '0 100' '900 1000'; do
       read -r from to <<< "$span"
-      echo "$kind, $base tuples, updates $from to $to: serial $(between "$from" "$to" serial), run $(between "$from" "$to" run --workers 1)"
+      serial=$(between "$from" "$to" serial)
+      echo "$kind, $base tuples, updates $from to $to: serial $serial, run $(between "$from" "$to" run --workers 1)"
     done
     first 0 > "$scratch/head"
     tuples=$(grep -c '^base' "$scratch/head")

@@ -73,8 +73,9 @@ def prepared(session, texts):
 def executed(session, texts):
     for update in session.updates:
         kind, (r, values) = update.operation
-        told = (spelled(value, (r, c) in texts) for c, value in enumerate(values))
-        yield f'EXECUTE {kind}_{table(session, r)}({", ".join(f"$v${value}$v$" if (r, c) in texts else value for c, value in enumerate(told))})'
+        told = [spelled(value, (r, c) in texts) for c, value in enumerate(values)]
+        words = ', '.join(f"'{value}'" if (r, c) in texts else value for c, value in enumerate(told))
+        yield f'EXECUTE {kind}_{table(session, r)}({words})'
 
 
 def dumps(session, folder):

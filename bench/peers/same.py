@@ -30,8 +30,8 @@ def of_database(text):
 
 def of_gringo(text):
     for line in text.splitlines():
-        name, rest = line.split('(', 1)
-        if not name.startswith(('base_', 'has_', '#')):
+        if not line.startswith(('base_', 'has_', '#')):
+            name, rest = line.split('(', 1)
             yield name, tuple((value[0] != '"' and '(' in value, value.strip('"')) for value in TERM.findall(rest[:-2]))
 
 
@@ -55,8 +55,11 @@ def standing(tuples):
 def refined(colours, where):
     """The colours of the nulls, told apart by the tuples that hold them until no more can be."""
     while True:
+        def told(null, value):
+            return '*' if value == null else str(colours[value]) if value[0] else '=' + value[1]
+
         def seen(null):
-            return sorted((name, tuple('*' if v == null else str(colours[v]) if v[0] else '=' + v[1] for v in values)) for name, values in where[null])
+            return sorted((name, tuple(told(null, value) for value in values)) for name, values in where[null])
         new = {null: hash((colours[null], tuple(seen(null)))) for null in where}
         if len(set(new.values())) == len(set(colours.values())):
             return new

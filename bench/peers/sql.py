@@ -94,6 +94,11 @@ def equalities(atoms, where):
     return found
 
 
+def select(picked, tables, conditions):
+    where = ' WHERE ' + ' AND '.join(conditions) if conditions else ''
+    return f'SELECT {picked}' + (f' FROM {tables}' if tables else '') + where
+
+
 class Repair:
     """A mapping as a tuple inserted for one atom of its left side, the seed, sees it."""
 
@@ -111,7 +116,7 @@ class Repair:
         return ', '.join(f'{table(self.session, atom[0])} {alias}' for alias, atom in atoms)
 
     def exists(self, atoms, conditions):
-        return f'EXISTS (SELECT 1 FROM {self.tables(atoms)}' + (' WHERE ' + ' AND '.join(conditions) if conditions else '') + ')'
+        return f'EXISTS ({select("1", self.tables(atoms), conditions)})'
 
     def lacks(self, where):
         """The condition that no tuples meet the right side for the shared variables."""
@@ -135,13 +140,12 @@ class Repair:
     def query(self, right_first):
         """The values of the shared variables for which the right side is lacking, each once."""
         if self.is_single():
-            return f'SELECT {self.picked(self.where)}' + ''.join(' WHERE ' * (not k) + ' AND ' * (k > 0) + it for k, it in enumerate(self.tests()))
+            return select(self.picked(self.where), '', self.tests())
         holder = self.holder() if right_first else None
         if holder:
             return self.asked_first(*holder)
         distinct = '' if self.is_unique() else 'DISTINCT '
-        conditions = ' AND '.join(self.joined + [self.lacks(self.where)])
-        return f'SELECT {distinct}{self.picked(self.where)} FROM {self.tables(self.others)} WHERE {conditions}'
+        return select(distinct + self.picked(self.where), self.tables(self.others), self.joined + [self.lacks(self.where)])
 
     def picked(self, where):
         return ', '.join(f'{where[x]} AS v{x}' for x in self.shared) or '1'
@@ -162,7 +166,7 @@ class Repair:
         where = {**self.where, **{x: f'f.{column}' for x, column in columns.items()}}
         values = f'(SELECT DISTINCT {", ".join(columns.values())} FROM {table(self.session, atom[0])}) f'
         joined = self.joined + [f'{self.where[x]} = {where[x]}' for x in rest]
-        return f'SELECT {self.picked(where)} FROM {values} WHERE {self.lacks(where)} AND {self.exists(self.others, joined)}'
+        return select(self.picked(where), values, [self.lacks(where), self.exists(self.others, joined)])
 
 
 def repairs(session, relation):

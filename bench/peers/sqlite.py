@@ -20,7 +20,7 @@ def index_lines(session):
 
 
 def insertion(session, atom, of):
-    """The insertion of an atom's tuple into its table, up to the source of the values; and the list of these, by the expression of a variable."""
+    """The insertion into an atom's table, up to the values, and the values; `of` has the expression of each variable."""
     terms = ', '.join(of[x] if kind == 'v' else literal(x) for kind, x in atom[1])
     return f'INSERT OR IGNORE INTO {table(session, atom[0])}', terms
 
