@@ -1,5 +1,5 @@
 #!/usr/bin/env python3
-"""Prints a session to measure on: `sessions.py random|chain|groups|shop|join|contention`, each with options (`-h` lists them).
+"""Prints a session to measure on: `sessions.py random|chain|groups|shop|join|contention|answers|order`, each with options (`-h` lists them).
 
 random      insertions and deletions over four relations and three mappings, some with a question that is answered `expand`
 chain       one relation after the other, each copied into the next; every update inserts a number into the first
@@ -8,12 +8,16 @@ shop        customers, orders and products: joins of 4 to 6 atoms with a fan-out
             find nothing (`quiet`), or a quarter of them 1 to 3 violations (`mixed`), which may ask (`ask`)
 join        three mappings with joins of two atoms over a base that meets them, without unknowns
 contention  insertions at one end of a chain of relations, deletions at the other, so that updates conflict
+answers     insertions that each draw a null and ask whether it is that of a tuple of the base, which the answer says it is
+order       one mapping whose atoms on one side stand in a bad order, over a base that meets it (orders.py)
 
 The sessions are the same at each run: numbers come from generators with a seed.
 """
 import argparse
 import random
 import sys
+
+from orders import SHAPES, order_session
 
 CURATORS = 12
 
@@ -299,9 +303,22 @@ def contention_session(length, values, updates, seed):
     yield 'end'
 
 
+# ---- answers ----
+
+def answers_session(base, updates):
+    yield 'youtopia 2'
+    yield from ('relation A 1', 'relation B 2', 'relation C 1', 'mapping m: A(x) -> B(x, z), C(z)')
+    yield from (f'base B({number}, "t{number}")' for number in range(1, base + 1))
+    for number in range(1, updates + 1):
+        yield f'update u{number} {curator(number)} insert A({number})'
+        yield f'answer u{number} unify B({number}, "t{number}")'
+    yield 'end'
+
+
 SESSIONS = {
     'random': random_session, 'chain': chain_session, 'groups': groups_session, 'shop': shop_session, 'join': join_session,
-    'contention': contention_session}
+    'contention': contention_session, 'answers': answers_session,
+    'order': order_session}
 
 
 def main():
@@ -332,6 +349,14 @@ def main():
     one.add_argument('--values', type=int, default=3)
     one.add_argument('--updates', type=int, default=1000)
     one.add_argument('--seed', type=int, default=1)
+    one = kinds.add_parser('answers')
+    one.add_argument('--base', type=int, default=10000)
+    one.add_argument('--updates', type=int, default=1000)
+    one = kinds.add_parser('order')
+    one.add_argument('--shape', choices=SHAPES, default='star')
+    one.add_argument('--side', choices=('left', 'right'), default='left')
+    one.add_argument('--size', type=int, default=4000)
+    one.add_argument('--updates', type=int, default=0)
     words = vars(parser.parse_args())
     for line in SESSIONS[words.pop('kind')](**words):
         print(line)

@@ -1,5 +1,6 @@
 """Random cases: words and an input, for each command."""
 from .core import Core
+from .joins import join_session
 from .journal import beginning, commit_payload, journal_bytes, sized
 from .printing import session_text, tuple_text
 from .results import result_text
@@ -217,16 +218,31 @@ def of_recovery(rng, maker, text):
     return ["recover"], rng.choice([data, data[:at], *bent, made_journal(rng, maker), made_journal(rng, maker)])
 
 
-# How often each kind comes.
+def of_join(rng, maker, text):
+    """A session with joins in place of the one drawn, or a query with such a join."""
+    maker = join_session(rng, maker.steps)
+    text = session_text(maker.session)
+    if rng.random() < 0.8:
+        return options(rng, rng.choice(["run", "run", "serial", "check"]), maker.steps), text
+    atoms = [(maker.session.relations[r][0], [x if kind == "v" else str(x[1]) for kind, x in terms]) for r, terms in maker.join()]
+    names = sorted({x for _, terms in atoms for x in terms if x.startswith("v")})
+    head = ", ".join(rng.sample(names, rng.choice([1, 2, 2, 3])))
+    body = ", ".join("%s(%s)" % (name, ", ".join(terms)) for name, terms in atoms)
+    return ["ask", "--query", "q(%s): %s" % (head, body), "--steps", str(maker.steps)], text
+
+
+# How often each kind comes, and the kinds that come only if they are asked for.
 KINDS = {of_session: 26, of_mangled: 34, of_audit: 12, of_spelling: 10, of_explanation: 8, of_words: 6, of_query: 6, of_recovery: 6,
          of_trace: 6, of_journal: 4, of_open_base: 3, of_drill: 2}
+ASKED = {of_join: 1}
 
 
-def case(rng):
-    """A case's kind, its words and its input."""
+def case(rng, asked=()):
+    """A case's kind, its words and its input; of one of the kinds that are asked for, if there are any."""
     maker = random_session(rng, rng.choice([3, 5, 8, 12, 30, 100]))
     if rng.random() < 0.05:
         maker.session = busy_session(rng)
-    make = rng.choices(list(KINDS), list(KINDS.values()))[0]
+    kinds = {make: share for make, share in (KINDS | ASKED).items() if make.__name__[3:] in asked} if asked else KINDS
+    make = rng.choices(list(kinds), list(kinds.values()))[0]
     words, data = make(rng, maker, session_text(maker.session))
     return make.__name__[3:], words, data
