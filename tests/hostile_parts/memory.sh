@@ -48,8 +48,8 @@ attack "$row" FAULTS=memory FAULTS_INSIDE=1 FAULTS_LASTING=1
 # Random commands on random sessions.
 drawn_rows memory 300
 for row in "$stored"/memory/*; do
-  attack "$row" FAULTS=memory
-  attack "$row" FAULTS=memory FAULTS_LASTING=1
+  attack "$row" FAULTS=memory FAULTS_MOST=2000
+  attack "$row" FAULTS=memory FAULTS_LASTING=1 FAULTS_MOST=2000
 done
 # And by the workers.
 made_row crowded run --workers 4 < <(bench/sessions.py contention --updates 30)
