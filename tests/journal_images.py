@@ -11,13 +11,15 @@ JOBS processes in the environment. The last line is 'N passed, M failed'.
 """
 import os
 import random
+import subprocess
 import sys
+import tempfile
 from concurrent.futures import ProcessPoolExecutor
 from pathlib import Path
 
 sys.path.insert(0, str(Path(__file__).resolve().parent / "hostile_parts"))
 
-from running import TESTS, told_by                   # noqa: E402
+from running import TESTS, served, told_by           # noqa: E402
 from oracle.commands import youtopia                 # noqa: E402
 from oracle.printing import session_text             # noqa: E402
 from oracle.sessions import random_session           # noqa: E402
@@ -69,19 +71,16 @@ def images(rng, stable, place, new):
 
 
 class Attack:
-    """The images of the journal of one session."""
+    """The images of the journal of one session, each with what may be recovered of it."""
 
     def __init__(self, program, session, seed):
-        self.program, self.rng, self.passed, self.failures = program, random.Random(seed), 0, []
+        self.rng, self.expected = random.Random(seed), []
         self.first, *self.records = frames_of(told_by(program, ["journal"], session)[1])
         known = (b"\1".join([self.first, *self.records[:count]]) + b"\0" for count in range(len(self.records) + 1))
         self.told = [youtopia(["recover"], data)[1] for data in known]
 
     def expect(self, image, allowed):
-        if told_by(self.program, ["recover"], image)[1] in allowed:
-            self.passed += 1
-        else:
-            self.failures.append(f"recovered to something else: {image.hex()}")
+        self.expected.append((image, allowed))
 
     def appends(self, disk):
         """Each record is appended to what stands on the disk."""
@@ -96,23 +95,35 @@ class Attack:
                 self.expect(disk, after if place == gate else before)
             gate += 1 + len(record)
 
-    def play(self):
+    def draw(self):
         self.appends(self.first + b"\0")
         self.appends(self.first + b"\0" + b"\1".join([*self.records[:2], b"commit"]))
-        return self.passed, self.failures
+        return self.expected
 
 
-def attacked(program, seed):
-    """The session of this seed; without one the session above."""
+def attacked(program, shim, seed):
+    """How many images of the session of this seed are recovered rightly, and what is told of the others; without one that above."""
     session = session_text(random_session(random.Random(seed), 300).session) if seed else SESSION
-    return Attack(program, session, seed).play()
+    expected = Attack(program, session, seed).draw()
+    ends = served(program, shim, ["recover"], [image for image, _ in expected])
+    wrong = [(image, status) for (image, allowed), (status, out) in zip(expected, ends) if status or out not in allowed]
+    return len(expected) - len(wrong), [f"seed {seed}, status {status}, not what it may be: {image.hex()}" for image, status in wrong]
+
+
+def compiled(folder):
+    """The library that runs a program on many inputs."""
+    shim = os.path.join(folder, "served.so")
+    source = TESTS / "hostile_parts" / "served.c"
+    subprocess.run(["cc", "-O2", "-Wall", "-shared", "-fPIC", "-o", shim, source], check=True)
+    return shim
 
 
 def main(program=PROGRAM, first="0", count="1"):
     passed = failed = 0
-    with ProcessPoolExecutor(int(os.environ.get("JOBS", "2"))) as pool:
+    with ProcessPoolExecutor(int(os.environ.get("JOBS", "2"))) as pool, tempfile.TemporaryDirectory() as folder:
+        shim = compiled(folder)
         seeds = range(int(first), int(first) + int(count))
-        for task in [pool.submit(attacked, os.path.realpath(program), seed) for seed in seeds]:
+        for task in [pool.submit(attacked, os.path.realpath(program), shim, seed) for seed in seeds]:
             made, failures = task.result()
             passed, failed = passed + made, failed + len(failures)
             print("".join(failure + "\n" for failure in failures), end="", flush=True)

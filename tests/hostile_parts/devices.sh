@@ -16,13 +16,19 @@ rows=(one-repair conflict-abort travel travel-save ask-travel journal-travel rec
 if [ -n "$cheap" ]; then
   rows=(one-repair travel recover-travel stuck-missing base-violates)
 fi
-for row in "${rows[@]}"; do
+# in_pieces ROW: attacks each call, with pieces of each size.
+in_pieces() {
+  local piece kind
   for piece in 1 7 20 1000000; do
-    each_write "tests/rows/$row" "$piece"
+    each_write "$1" "$piece"
     for kind in read told; do
-      attack "tests/rows/$row" FAULTS=$kind FAULTS_PIECE=$piece
+      attack "$1" FAULTS=$kind "FAULTS_PIECE=$piece"
     done
   done
+}
+
+for row in "${rows[@]}"; do
+  in_pieces "tests/rows/$row"
   # A write that takes nothing (0), a full disk, a pipe that nobody reads; and err, which fails besides.
   for error in 0 28 32; do
     attack "tests/rows/$row" FAULTS=write FAULTS_PIECE=20 FAULTS_ERROR=$error
@@ -33,4 +39,10 @@ done
 # drill reads nothing.
 for piece in 1 7 20 1000000; do
   each_write tests/rows/drill-one "$piece"
+done
+# Random commands on random sessions.
+[ -z "$cheap" ] || return 0
+drawn_rows devices 80
+for row in "$stored"/devices/*; do
+  in_pieces "$row"
 done

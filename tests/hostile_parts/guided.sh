@@ -1,5 +1,6 @@
 # Inputs of yt that AFL++ makes, which goes on from each that reaches a new branch (workspace_guided.py). For it yt is built without proof, in about
-# five minutes of processor; GUIDED=path takes one that is built. Skipped with a word if it cannot be built; AFL++ is installed if it can be had.
+# five minutes of processor; GUIDED=path takes one that is built. COUNT=N makes N inputs of each kind. Skipped with a word if it cannot be built;
+# AFL++ is installed if it can be had.
 guided=$(realpath -m "${GUIDED:-crates/yt/out/guided}")
 
 # Builds yt with its branches counted, its main by another name, and guided.c with the driver of AFL++ for it.
@@ -13,9 +14,9 @@ build_guided() {
   cc -O2 -Wall -o "$guided" "$here/guided.c" "$stored/yt.o" "$kit"/c/lib{os,libc}_c.a /usr/lib/afl/{libAFLDriver.a,afl-compiler-rt.o} -lcrypto -lm -ldl
 }
 
-# on_branches KIND COUNT: makes that many inputs of a kind.
+# on_branches KIND COUNT: makes that many inputs of a kind, unless the environment says otherwise.
 on_branches() {
-  tally "inputs of new branches, $1" "$(python3 -B "$here/workspace_guided.py" "$workspace" "$guided" "$@" 2>&1)"
+  tally "inputs of new branches, $1" "$(python3 -B "$here/workspace_guided.py" "$workspace" "$guided" "$1" "${COUNT:-$2}" 2>&1)"
 }
 
 [ -z "$cheap" ] || return 0

@@ -45,6 +45,12 @@ made_row groups ask --query 'q(x, w): C0(x, z), D0(z, w)' < <(bench/sessions.py 
 attack "$row" FAULTS=memory FAULTS_INSIDE=1
 made_row chain serial < <(bench/sessions.py chain --length 30 --updates 20)
 attack "$row" FAULTS=memory FAULTS_INSIDE=1 FAULTS_LASTING=1
+# Random commands on random sessions.
+drawn_rows memory 300
+for row in "$stored"/memory/*; do
+  attack "$row" FAULTS=memory FAULTS_MOST=2000
+  attack "$row" FAULTS=memory FAULTS_LASTING=1 FAULTS_MOST=2000
+done
 # And by the workers.
 made_row crowded run --workers 4 < <(bench/sessions.py contention --updates 30)
 attack "$row" FAULTS=memory FAULTS_MOST=6000

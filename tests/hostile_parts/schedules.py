@@ -1,10 +1,10 @@
 #!/usr/bin/env python3
-"""schedules.py PROGRAM TWO THREE [DRAWN]: every order in which two and three seats of a desk come, over small sessions whose updates meet.
+"""schedules.py PROGRAM TWO THREE [FIRST DRAWN]: every order in which two and three seats of a desk come, over small sessions whose updates meet.
 
 The program is that of crates/try_desk, which makes the schedules on one thread: a seat asks for a ticket, works its step out, and
-hands it in. Two seats come in every order for their first TWO calls, three for THREE, and then by turns; in DRAWN random sessions besides for
-four and three calls less. Each end that is reached has to be the result of the serial machine and a history of which the reference's auditor says
-that it is legal and ends quiet. JOBS processes in the environment. The last line is 'N passed, M failed'.
+hands it in. Two seats come in every order for their first TWO calls, three for THREE, and then by turns; in DRAWN random sessions besides, of
+the seeds from FIRST on, for four and three calls less. Each end that is reached has to be the result of the serial machine and a history of which
+the reference's auditor says that it is legal and ends quiet. JOBS processes in the environment. The last line is 'N passed, M failed'.
 """
 import os
 import random
@@ -33,13 +33,13 @@ BUDGET, MOST = 100, 10 ** 9
 FEWER = {2: 4, 3: 3}        # calls in a drawn session, by the number of seats
 
 
-def tasks(two, three, drawn):
+def tasks(two, three, seeds):
     """Each session with a setting of the desk, a number of seats, and how many of their calls come in every order."""
     for extent in ((3, three), (2, two)):
         for deps, retries in ((b"precise", 3), (b"coarse", 3), (b"precise", 0)):
             for name, text in SESSIONS.items():
                 yield name, b"youtopia 2\n" + text.encode() + b"end\n", deps, retries, *extent
-    for seed in range(drawn):
+    for seed in seeds:
         rng = random.Random(seed)
         data = session_text(busy_session(rng))
         for seats, calls in ((3, three), (2, two)):
@@ -74,10 +74,11 @@ def explored(program, name, data, deps, retries, seats, calls):
     return schedules, len(ends), [f"{about}:\n{end.decode()}" for end in ends if not is_right(session, result, retries, deps, end)]
 
 
-def main(program, two, three, drawn="0"):
+def main(program, two, three, first="0", drawn="0"):
     passed = failed = distinct = 0
+    seeds = range(int(first), int(first) + int(drawn))
     with ProcessPoolExecutor(int(os.environ.get("JOBS", "2"))) as pool:
-        for made in [pool.submit(explored, program, *task) for task in tasks(int(two), int(three), int(drawn))]:
+        for made in [pool.submit(explored, program, *task) for task in tasks(int(two), int(three), seeds)]:
             schedules, ends, wrong = made.result()
             distinct, passed, failed = distinct + ends, passed + schedules - len(wrong), failed + len(wrong)
             print("".join(end + "\n" for end in wrong), end="", flush=True)

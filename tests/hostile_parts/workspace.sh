@@ -49,5 +49,5 @@ else
   on_workspaces crowd 600
   on_workspaces fuzz scripts 1 3000
   on_workspaces fuzz files 1 1000
-  on_workspaces lines 1 200 50000
+  on_workspaces lines 1 1500 5000
 fi
