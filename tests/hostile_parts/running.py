@@ -17,6 +17,7 @@ from oracle.commands import youtopia     # noqa: E402
 
 SHOWN = 200
 DEADLINE = 300      # seconds after which a program hangs
+SERVED = 500        # inputs of one process
 
 
 def file_of(data):
@@ -55,7 +56,12 @@ def told_by(program, words, data, **environment):
 
 
 def served(program, shim, words, inputs):
-    """The status and what out took for each of these inputs. The shim is served.c, compiled."""
+    """The status and what out took for each of these inputs, some by each process. The shim is served.c, compiled."""
+    parts = (inputs[place:place + SERVED] for place in range(0, len(inputs), SERVED))
+    return [end for part in parts for end in served_at_once(program, shim, words, part)]
+
+
+def served_at_once(program, shim, words, inputs):
     asked = b"".join(len(data).to_bytes(4, sys.byteorder) + data for data in inputs)
     status, told, _ = told_by(program, words, asked, LD_PRELOAD=shim, SERVED="1")
     place, ends = 0, []
