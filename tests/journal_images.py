@@ -102,7 +102,7 @@ class Attack:
 
 
 def attacked(program, shim, seed):
-    """How many images of the session of this seed are recovered rightly, and what is told of the others; without one that above."""
+    """How many images of this seed's session, or without one of that above, are recovered rightly, and what is told of the others."""
     session = session_text(random_session(random.Random(seed), 300).session) if seed else SESSION
     expected = Attack(program, session, seed).draw()
     ends = served(program, shim, ["recover"], [image for image, _ in expected])

@@ -1,8 +1,9 @@
 #!/usr/bin/env python3
-"""drawn_rows.py FOLDER FIRST COUNT: writes there a row for each of COUNT random cases, of the seeds from FIRST on, with what the reference tells.
+"""drawn_rows.py FOLDER FIRST COUNT: writes there a row for each of COUNT random cases, of the seeds from FIRST on.
 
-The cases are those of tests/differential: a command with its options over a random session, often a garbled one. Those are left out that read no
-input, or may tell any of several histories. A row has the name `drawn-SEED`, by which it can be made again.
+The cases are those of tests/differential: a command with its options over a random session, often a garbled one; a row has what the
+reference tells. Those are left out that read no input, or may tell any of several histories. A row has the name `drawn-SEED`, by which
+it can be made again.
 """
 import random
 import sys
@@ -31,7 +32,8 @@ def main(folder, first, count):
         words, data, (status, out, err) = drawn(seed)
         row = Path(folder) / f"drawn-{seed}"
         row.mkdir(parents=True)
-        texts = {"session": data, "words": "".join(word + "\n" for word in words).encode(), "out": out, "err": err, "status": b"%d\n" % status}
+        said = "".join(word + "\n" for word in words).encode()
+        texts = {"session": data, "words": said, "out": out, "err": err, "status": b"%d\n" % status}
         for name, text in texts.items():
             (row / name).write_bytes(text)
 

@@ -1,9 +1,9 @@
-/* Preloaded into a program: runs it once for each of many inputs, each time in a process of its own that is split off before main, which takes
-   half the time of a start.
+/* Preloaded into a program: runs it once for each of many inputs, each time in a process of its own that is split off before main,
+   which takes half the time of a start.
 
-   SERVED=1   the standard input has the inputs, each behind its length; to the standard output goes for each of them the status of its run, or
-              1000 and the number of the signal that ended it, then the length of what the run wrote to out, then that; numbers have four bytes.
-              A run is ended after SECONDS. */
+   SERVED=1   the standard input has the inputs, each after its length; to the standard output goes for each of them the status of its
+              run, or 1000 and the number of the signal that ended it, then the length of what the run wrote to out, then that. Numbers
+              have four bytes. A run is ended after SECONDS. */
 #define _GNU_SOURCE
 #include <fcntl.h>
 #include <stdint.h>
