@@ -4,7 +4,8 @@
 The program is that of crates/try_desk, which makes the schedules on one thread: a seat asks for a ticket, works its step out, and
 hands it in. Two seats come in every order for their first TWO calls, three for THREE, and then by turns; in DRAWN random sessions
 besides, of the seeds from FIRST on, for four and three calls less. Each end that is reached has to be the result of the serial machine
-and a history of which the reference's auditor says that it is legal and ends quiet. JOBS processes in the environment. The last line is 'N passed, M failed'.
+and a history of which the reference's auditor says that it is legal and ends quiet. JOBS processes in the environment. The last line
+is 'N passed, M failed'.
 """
 import os
 import random
