@@ -12,7 +12,7 @@ import subprocess
 import sys
 from concurrent.futures import ProcessPoolExecutor
 
-from running import TESTS     # noqa: F401, which makes the reference known
+from running import TESTS     # noqa: F401, makes the reference known
 
 from call_cases import CASCADE, INSERT_DELETE, TAKEN_NULL, TWO_LEVELS
 from oracle.audit import audit
@@ -47,7 +47,7 @@ def tasks(two, three, seeds):
 
 
 def ends_of(program, data, deps, retries, seats, calls):
-    """How many schedules were made, and the ends that they came to."""
+    """The number of schedules, and the ends that they reached."""
     case = b"case %d %d %s\n" % (BUDGET, retries, deps) + data + b"explore %d %d %d\ndone\n" % (seats, calls, MOST)
     told = subprocess.run([program], input=case, capture_output=True, check=True).stdout
     head, _, rest = told.partition(b"\n")
@@ -58,7 +58,7 @@ def ends_of(program, data, deps, retries, seats, calls):
 
 
 def is_right(session, result, retries, deps, end):
-    """Whether an end is the result, and behind it a legal history that ends quiet."""
+    """Whether an end is the result, and after it a legal history that ends quiet."""
     if not end.startswith(result):
         return False
     told = audit(session, BUDGET, retries, deps == b"precise", end[len(result):])
@@ -66,7 +66,7 @@ def is_right(session, result, retries, deps, end):
 
 
 def explored(program, name, data, deps, retries, seats, calls):
-    """How many schedules and ends there are, and what is told of the wrong ones."""
+    """The number of schedules and of ends, and words about the wrong ones."""
     session = read_session(data)
     result = result_text(session, serial(session, BUDGET))
     schedules, ends = ends_of(program, data, deps, retries, seats, calls)

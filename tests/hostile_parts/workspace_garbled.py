@@ -10,7 +10,7 @@ ODD = list("'\"\\?#;:*_.,()-><=|&\t \u00a0\u00e9\u65e5\u0301\u202e\u200b\ufeff\x
 
 
 def garbled_line(rng, line):
-    """The bytes of this command, damaged once to three times."""
+    """The bytes of this command, damaged one to three times."""
     tokens = TOKEN.findall(line)
     for _ in range(rng.choice([1, 1, 1, 2, 3])):
         at = rng.randrange(len(tokens) + 1)
@@ -80,9 +80,9 @@ OPTIONS = ["--create", "--create", "--empty new", "--empty new", "--empty text",
 
 
 def load_lines(rng, path, data):
-    """One to three lines that load the file, or its lines out of the script."""
+    """One to three lines that load the file, or load its lines from the script."""
     out = b""
-    # Where the header makes no relation, the reference tells a column of a line that nobody said.
+    # If the header makes no relation, the reference reports a column of a line that nobody gave.
     options = [option for option in OPTIONS if option != "--create" or not re.match(b"(\xef\xbb\xbf)?(_x|a[,;\t]b|x[,;\t]x)", data)]
     for _ in range(rng.choice([1, 1, 2, 3])):
         words = " ".join(rng.sample(options, rng.choice([0, 1, 1, 2, 3])))

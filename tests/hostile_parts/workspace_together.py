@@ -1,9 +1,9 @@
 #!/usr/bin/env python3
-"""workspace_together.py YT COUNT: many processes of yt change one file at once, and some of them are killed.
+"""workspace_together.py YT COUNT: many processes of yt change one file at the same time, and some of them are killed.
 
-COUNT times 8 and 16 processes insert tuples of their own, answer, undo and fold, each a command at a time. Every command that was acknowledged is
-there afterwards, by what the reference reads; each has a record of its own; and what a killed process had not acknowledged is there or not.
-The last line is 'N passed, M failed'.
+COUNT times 8 and 16 processes insert tuples of their own, answer, undo and fold, each one command at a time. Every acknowledged
+command must be there afterwards, as the reference reads it, with a record of its own; a command that a killed process had not
+acknowledged may be there or not. The last line is 'N passed, M failed'.
 """
 import json
 import os
@@ -19,7 +19,7 @@ BEGIN = ["relation A(who, what)", "relation B(who, more)", "mapping m: A(x, y) -
 
 
 def commands(rng, name):
-    """What one process says, one after the other."""
+    """The commands of one process, one after the other."""
     for number in range(EACH):
         yield "insert A(%d, %d)" % (name, number)
         if rng.random() < 0.15:
@@ -27,7 +27,7 @@ def commands(rng, name):
 
 
 class Process:
-    """One process of yt that gets its commands at once, and is perhaps killed."""
+    """One process of yt that gets all its commands at once, and may be killed."""
 
     def __init__(self, bench, file, rng, name, killed):
         self.lines = list(commands(rng, name))
@@ -38,7 +38,7 @@ class Process:
         self.run.stdin.close()
 
     def end(self):
-        """The replies that came in full."""
+        """The replies that came complete."""
         if self.killed:
             time.sleep(0.02)
             self.run.kill()

@@ -49,5 +49,5 @@ returns-clause-step c =
 pub invariant_of-self : goal.invariant_of-self
 invariant_of-self c =
     let back = front c.plan_at.new.queue (drop (length c.plan_at.new.queue) c.self.inside.queue.items) c.self.inside.queue.len (omega arith) ∙ c.plan_at.ensures.same in
-    let before = as_before _ _ _ _ _ _ _ _ _ (back ∙ c.deref_mut.ensures.value) c.self.invariant in
-    (before.0, before.1, before.2, before.3, subst (λ (rs : List QueuedUpdate). IsKnown c.self.inside.mappings c.self.inside.versions rs c.plan_at.new.known) (sym back) c.plan_at.ensures.known)
+    let before = as_before _ _ _ _ _ _ _ _ _ (back ∙ c.deref_mut.ensures.value) (c.self.invariant.0, c.self.invariant.1, c.self.invariant.2, c.self.invariant.3, c.self.invariant.4) in
+    (before.0, before.1, before.2, before.3, subst (λ (rs : List QueuedUpdate). IsKnown c.self.inside.mappings c.self.inside.versions rs c.plan_at.new.known) (sym back) c.plan_at.ensures.known, c.self.invariant.5)
