@@ -1,4 +1,4 @@
--- What the lists of the program mean: their items, in the terms of the definitions of the chase.
+-- The meanings of the program's lists: their items, in the terms of the definitions of the chase.
 use Rattle.std.specs.Prelude.{List, map}
 use Rattle.def_chase.specs.Values.{Datum, Fact}
 use Rattle.def_chase.specs.Mappings.{Rule}

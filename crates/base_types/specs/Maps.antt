@@ -6,11 +6,11 @@ use Rattle.std.specs.Ordering.{is_eq}
 use Rattle.def_chase.specs.Values.{NullName, Datum, Number, Text, Unknown, null_cmp}
 use Rattle.def_chase.specs.Matching.{Known}
 
--- What is known of each variable: what stands at its number, and nothing past the end.
+-- The known value of each variable: the item at its number; None after the end of the list.
 abbrev pub known_of : List (Option Datum) → Known
 known_of ds v = slice_index_or ds v None
 
--- The two are one null.
+-- The two nulls are the same.
 abbrev pub same_null : NullName → NullName → Bool
 same_null m n = is_eq (null_cmp m n)
 
@@ -18,19 +18,19 @@ same_null m n = is_eq (null_cmp m n)
 abbrev pub is_pair_of : NullName → NullName × Datum → Bool
 is_pair_of n p = same_null n p.0
 
--- The image of each null, where it has one: that of its first pair.
+-- The image of each null: the value of its first pair, if it has one.
 abbrev pub images_of : List (NullName × Datum) → NullName → Option Datum
 images_of pairs n = option_map (λ p. p.1) (find (is_pair_of n) pairs)
 
--- No null has an image.
+-- The function by which no null has an image.
 abbrev pub no_image : NullName → Option Datum
 no_image _ = None
 
--- Null n has the image d; the others have what they had.
+-- Null n has the image d; the others keep theirs.
 abbrev pub give_image : (NullName → Option Datum) → NullName → Datum → NullName → Option Datum
 give_image f n d = λ m. if same_null m n then Some d else f m
 
--- The value moved: a null to its image, where it has one; everything else stays.
+-- The value after the substitution: a null that has an image becomes it; everything else stays.
 abbrev pub moved_by : (NullName → Option Datum) → Datum → Datum
 moved_by f (Number i) = Number i
 moved_by f (Text w) = Text w

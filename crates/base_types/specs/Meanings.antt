@@ -1,6 +1,7 @@
--- What the types of the program mean, in the terms of the definitions of the chase.
+-- The meanings of the program's types, in the terms of the definitions of the chase.
 use Rattle.std.specs.Prelude.{ℕ, ◌-◌, List, map, length}
 use Rattle.base_types.specs.declared.nulls.Null.{Null as NullOfProgram}
+use Rattle.base_types.specs.declared.nulls.OuterName.{OuterName}
 use Rattle.base_types.specs.declared.values.Value.{Value}
 use Rattle.base_types.specs.declared.values.Value.TheVariants.{Int, Word, Null}
 use Rattle.base_types.specs.declared.substitutions.Assignment.{Assignment}
@@ -28,6 +29,10 @@ use Rattle.def_chase.specs.Updates.{Operation, Adds, Removes, Replaces, Enacts, 
 abbrev pub null_of : NullOfProgram → NullName
 null_of n = record { update = n.update; attempt = n.attempt; place = n.place }
 
+-- The null that a written `OuterName` stands for: that of attempt 0.
+abbrev pub outer_null_of : OuterName → NullName
+outer_null_of n = record { update = n.update; attempt = 0; place = n.place }
+
 -- The value that a `Value` stands for.
 abbrev pub datum_of : Value → Datum
 datum_of (Int i) = Number i
@@ -51,7 +56,8 @@ slot_of (ConstTerm d) = Const (datum_of d)
 abbrev pub pattern_of : Atom → Pattern
 pattern_of a = record { relation = a.relation; terms = map slot_of a.terms.items }
 
--- The mapping that a `Mapping` stands for. Its variables that have a name and are not universal are existential. Names do not bear on the chase.
+-- The mapping that a `Mapping` stands for. Its variables that have a name and are not universal are existential. Names do not
+-- bear on the chase.
 abbrev pub rule_of : Mapping → Rule
 rule_of m =
     record { since = m.since; universal = m.universal; existential = length m.names.items - m.universal; left = map pattern_of m.left.items; right = map pattern_of m.right.items }
@@ -78,7 +84,7 @@ operation_of (DeleteTuple t) = Removes (fact_of t)
 operation_of (Replace n v) = Replaces (null_of n) (datum_of v)
 operation_of (Enact m) = Enacts m
 
--- What is asked, by whom, and under which label.
+-- A request: its label, its curator, and its operation.
 pub record Request : Type 0 where
   pub label : List ℕ
   pub curator : List ℕ

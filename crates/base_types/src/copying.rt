@@ -6,13 +6,13 @@ use crate::lists::List;
 use def_memory::Memory;
 use std::alloc::Global;
 
-/// What can be copied where there is memory. A copy means the same as the original.
+/// A type whose values can be copied. A copy means the same as the original.
 pub trait TryCopy: Drop {
     ghost Meaning: { Type 0 };
 
     ghost meaning: { Self → Meaning };
 
-    /// A copy that means the same.
+    /// A copy that means the same as this value.
     fn copy(&self, alloc: Global) -> Result<Self, Memory>
         ensures same { IfOk result (λ copy. meaning copy ≡ meaning self.now) };
 }

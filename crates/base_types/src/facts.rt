@@ -1,4 +1,4 @@
-//! Sets of tuples that can be gone over in order.
+//! Sets of tuples, with searches in order.
 ghost use Rattle.std.specs.Prelude.{◌≡◌, List, map, find, IfSome};
 ghost use Rattle.std.specs.Option.{option_map, option_copied};
 ghost use Rattle.def_chase.specs.Cursors.{is_beyond, first_of, next_of, scan_of};
@@ -8,15 +8,16 @@ ghost use Rattle.base_types.specs.Meanings.{fact_of, datum_of};
 ghost use Rattle.base_types.specs.Candidates.{AreFurther, AreAllInColumn, is_holding};
 
 use crate::candidates::{Candidates, Column};
+use crate::nulls::OuterName;
 use crate::tuples::Tuple;
 use crate::values::Value;
 
-/// A finite set of tuples. Its meaning, `tuples`, is the list of what they mean, in order. Each call also tells
-/// that this list is in order. No call takes memory.
+/// A finite set of tuples. Its meaning, `tuples`, is the list of their meanings. Most calls also promise that this list is in
+/// order. No call can fail.
 pub trait Facts {
     ghost tuples: { Self → List Fact };
 
-    /// What is always true of a set: its tuples are in order. It does nothing but say so.
+    /// A law: the tuples of a set are in order. The call does nothing else.
     fn is_in_order(&self)
         ensures in_order { IsRepository (tuples self.now) };
 
@@ -25,28 +26,27 @@ pub trait Facts {
         ensures answer { result ≡ has (tuples self.now) (fact_of tuple.now) }
         ensures in_order { IsRepository (tuples self.now) };
 
-    /// The least tuple of any relation above the given one, which need not be in the set, or of all where none is
-    /// given; None exactly where there is none.
+    /// The least tuple of any relation above `past`, which need not be in the set, or of all tuples if none is given; None
+    /// exactly if there is none.
     fn beyond(&self, past: Option<&Tuple>) -> Option<&Tuple>
         ensures found { option_map fact_of (option_copied result) ≡
             find (is_beyond (option_map fact_of (option_copied past.entry))) (tuples self.now) }
         ensures in_order { IsRepository (tuples self.now) };
 
-    /// The least tuple of the relation; None exactly where it has none.
+    /// The least tuple of the relation; None exactly if it has none.
     fn first(&self, relation: u16) -> Option<&Tuple>
         ensures found { option_map fact_of (option_copied result) ≡
             first_of (tuples self.now) relation }
         ensures in_order { IsRepository (tuples self.now) };
 
-    /// The least tuple of the same relation above the given one, which need not be in the set; None exactly where
-    /// there is none.
+    /// The least tuple above the given one in its relation; None exactly if there is none. The given one need not be in the set.
     fn after(&self, tuple: &Tuple) -> Option<&Tuple>
         ensures found { option_map fact_of (option_copied result) ≡
             next_of (tuples self.now) (fact_of tuple.now) }
         ensures in_order { IsRepository (tuples self.now) };
 
-    /// The least tuple of the relation that has the value in the column, counted from 0, and is above `past` where
-    /// that is given; None exactly where there is none.
+    /// The least tuple of the relation that has the value in the column, counted from 0, and is above `past` if that is given;
+    /// None exactly if there is none.
     fn scan(
         &self,
         relation: u16,
@@ -59,16 +59,15 @@ pub trait Facts {
             (option_map fact_of (option_copied past.entry)) }
         ensures in_order { IsRepository (tuples self.now) };
 
-    /// The least tuple that holds a null drawn by this update at this place, by whatever attempt, and is above `past` where
-    /// that is given; None exactly where there is none.
-    fn holding(&self, update: u32, place: u32, past: Option<&Tuple>) -> Option<&Tuple>
+    /// The least tuple above `past`, if that is given, that holds a null of this name; None exactly if there is none.
+    fn holding(&self, name: OuterName, past: Option<&Tuple>) -> Option<&Tuple>
         ensures found { option_map fact_of (option_copied result) ≡
-            find (is_holding update place (option_map fact_of (option_copied past.entry)))
-            (tuples self.now) }
+            find (is_holding name.update name.place
+            (option_map fact_of (option_copied past.entry))) (tuples self.now) }
         ensures in_order { IsRepository (tuples self.now) };
 
-    /// All tuples of the relation that have the column's value, where a column is given, and are above `past`, where that is
-    /// given, as far as the set has them at hand. One that has no better way says that they stand apart.
+    /// The tuples of the relation that have the column's value and are above `past`, if these are given, as far as the set has
+    /// them at hand. A set with no better way answers `Apart`.
     fn candidates(
         &self,
         _relation: u16,
@@ -81,8 +80,7 @@ pub trait Facts {
         Candidates::Apart
     }
 
-    /// The values that the relation's tuples have in the column, if they are few and the set has them at hand. There may be
-    /// others among them.
+    /// The values that the relation's tuples have in the column, if the set has them at hand. Other values may be among them.
     fn values(&self, _relation: u16, _column: u16) -> Option<&[Value]>
         ensures all { IfSome result (λ values.
             AreAllInColumn (map datum_of values.now) (tuples self.now) _relation _column) }

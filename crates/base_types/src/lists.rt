@@ -10,8 +10,8 @@ use std::alloc::Global;
 use std::cmp::Ordering;
 use std::marker::Model;
 
-/// A list that says when it wants memory. Contracts see its items, `items`, and how many more it takes before
-/// it asks for memory, `spare`. Lists are equal where their items are.
+/// A list whose errors say when memory runs out. Contracts see its items, `items`, and the number of further items that it takes
+/// before it asks for memory, `spare`. Lists are equal if their items are.
 #[derive(Debug, Drop)]
 pub struct List<T> {
     items: Vec<T>,
@@ -23,10 +23,10 @@ pub type Word = List<u8>;
 /// The bytes of a name.
 pub type Name = List<u8>;
 
-/// Names, as those of a mapping's variables by number.
+/// Names, such as the names of a mapping's variables, by number.
 pub type NameList = List<Name>;
 
-/// Numbers, as those of updates.
+/// Numbers, such as the numbers of updates.
 pub type NumberList = List<u32>;
 
 impl<T> Model for List<T> {
@@ -53,7 +53,7 @@ impl<T> List<T> {
         }
     }
 
-    /// The items of a vector, which it takes over.
+    /// The list of a vector's items; it takes the vector over.
     pub fn from_vec(items: Vec<T>) -> List<T>
         ensures same { result.items ≡ items.items }
     {
@@ -68,7 +68,7 @@ impl<T> List<T> {
         items
     }
 
-    /// How many items there are.
+    /// The number of items.
     pub fn len(&self) -> usize
         ensures length { result ≡ length self.now.items }
     {
@@ -82,7 +82,7 @@ impl<T> List<T> {
         self.items.is_empty()
     }
 
-    /// The item at a place, counted from 0; None exactly where the list ends before it.
+    /// The item at a place, counted from 0; None exactly if the list ends before it.
     pub fn get(&self, index: usize) -> Option<&T>
         ensures item { option_copied result ≡ slice_get self.now.items index }
     {
@@ -96,7 +96,7 @@ impl<T> List<T> {
         self.items.as_slice()
     }
 
-    /// Puts an item at the end. It is never refused if `spare` is at least 1. If it is refused, it hands the item back, and the
+    /// Adds an item at the end. It is never refused if `spare` is at least 1. If it is refused, it hands the item back, and the
     /// list is unchanged.
     pub fn push(&mut self, item: T) -> Result<(), (T, Memory)>
         ensures ok { OnOk result (self.new.items ≡ self.old.items ++ item ∷ []) }
@@ -111,7 +111,7 @@ impl<T> List<T> {
         }
     }
 
-    /// Makes room for so many more items. The items stay as they are.
+    /// Makes room for `more` further items. The items stay as they are.
     pub fn reserve(&mut self, more: usize) -> Result<(), Memory>
         ensures room { OnOk result (more ≤ self.new.spare) }
         ensures same { self.new.items ≡ self.old.items }
@@ -123,7 +123,7 @@ impl<T> List<T> {
         }
     }
 
-    /// Moves all items of another list behind its own. It is never refused if `spare` is at least as many as they are. If it is
+    /// Moves all items of another list to the end of this one. It is never refused if `spare` is at least their number. If it is
     /// refused, both lists are unchanged.
     pub fn append(&mut self, other: &mut List<T>) -> Result<(), Memory>
         ensures ok { OnOk result (self.new.items ≡ self.old.items ++ other.old.items) }
@@ -139,7 +139,7 @@ impl<T> List<T> {
         }
     }
 
-    /// Takes the last item away and gives it; None exactly where the list is empty.
+    /// Removes the last item and returns it; None exactly if the list is empty.
     pub fn pop(&mut self) -> Option<T>
         ensures last { IfSome result (λ item. self.old.items ≡ self.new.items ++ item ∷ []) }
         ensures empty { IfNone result (self.old.items ≡ []) }
@@ -150,7 +150,7 @@ impl<T> List<T> {
 }
 
 impl<T: Drop> List<T> {
-    /// Puts an item in place of the one that stands there.
+    /// Replaces the item at place `index`, counted from 0.
     pub fn put(&mut self, index: usize, item: T)
         requires { index < length self.old.items }
         ensures items { self.new.items ≡ slice_set self.old.items index item }
@@ -158,7 +158,7 @@ impl<T: Drop> List<T> {
         self.items[index] = item;
     }
 
-    /// Takes all items away.
+    /// Removes all items.
     pub fn clear(&mut self)
         ensures empty { self.new.items ≡ [] }
     {

@@ -29,10 +29,10 @@ pub struct Atom {
 /// Atoms that hold together.
 pub type AtomList = List<Atom>;
 
-/// A mapping, or tuple-generating dependency: where the atoms on the left hold, those on the right do, for some
-/// values of the variables that stand on the right alone. Variables are numbered from 0 by first occurrence, the
-/// left side first: `universal` of them stand on the left, and `names` has the spelling of each. The mapping is
-/// in force from the start where `since` is 0, else once the update of that number has put it in force.
+/// A mapping, or tuple-generating dependency: if the atoms on the left hold, so do the atoms on the right, for some values of the
+/// variables that stand only on the right. Variables are numbered from 0 by first occurrence, the left side first; `universal` of
+/// them stand on the left, and `names` has the name of each. If `since` is 0, the mapping is in force from the start, otherwise
+/// once the update of that number has put it in force.
 #[derive(Debug, Drop)]
 pub struct Mapping {
     pub name: Name,

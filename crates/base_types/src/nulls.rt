@@ -1,9 +1,9 @@
-//! Labelled nulls and their order.
-ghost use Rattle.std.specs.Prelude.{refl};
+//! Labelled nulls, their order, and the names that people give them.
+ghost use Rattle.std.specs.Prelude.{◌≡◌, refl};
 ghost use Rattle.std.specs.Ordering.{on, as_partial_cmp, eq_by_cmp};
 ghost use Rattle.std.specs.Cmp.{on_total, eq_by_cmp_equiv, partial_equiv_from_equiv, po};
 ghost use Rattle.def_chase.specs.Values.{null_cmp};
-ghost use Rattle.base_types.specs.Meanings.{null_of};
+ghost use Rattle.base_types.specs.Meanings.{null_of, outer_null_of};
 ghost use Rattle.def_chase.proofs.Order.{null_total};
 
 use std::cmp::Ordering;
@@ -15,6 +15,40 @@ pub struct Null {
     pub update: u32,
     pub attempt: u32,
     pub place: u32,
+}
+
+/// A null as people name it, `?u.k`: the update that drew it, and its place among the nulls of its attempt. The attempt that drew
+/// it does not count.
+#[derive(Clone, Copy, Debug)]
+pub struct OuterName {
+    pub update: u32,
+    pub place: u32,
+}
+
+impl Null {
+    /// The name that people give it.
+    pub fn outer_name(self) -> OuterName
+        ensures update { result.update ≡ self.update }
+        ensures place { result.place ≡ self.place }
+    {
+        OuterName {
+            update: self.update,
+            place: self.place,
+        }
+    }
+}
+
+impl OuterName {
+    /// The null that the written name stands for: that of attempt 0.
+    pub fn null(self) -> Null
+        ensures null { null_of result ≡ outer_null_of self }
+    {
+        Null {
+            update: self.update,
+            attempt: 0,
+            place: self.place,
+        }
+    }
 }
 
 impl PartialEq for Null {

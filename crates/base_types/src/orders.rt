@@ -1,13 +1,13 @@
-//! The order of two slices: the first items that differ decide, and else the lengths do.
+//! The order of two slices: the first items that differ decide; if none differ, the lengths do.
 ghost use Rattle.std.specs.Prelude.{◌≡◌};
 ghost use Rattle.std.specs.Cmp.Lexicographic.{slice_cmp};
 
 use std::cmp::Ordering;
 
-// From this length on it pays to pass many equal items at once, as the library does.
+// From this length on the library's comparison is faster, as it skips many equal items at once.
 const LONG: usize = 16;
 
-/// The order of two slices. Most words and rows are short, and are gone over item by item.
+/// The order of two slices. Most words and rows are short, so they are compared item by item.
 pub fn order<T: Ord>(items: &[T], others: &[T]) -> Ordering
     ensures order { result ≡ slice_cmp T.cmp items.now others.now }
 {
@@ -18,7 +18,7 @@ pub fn order<T: Ord>(items: &[T], others: &[T]) -> Ordering
     }
 }
 
-// The order of two long slices. Never inlined, so that short ones save no registers for it.
+// The order of two long slices. Never inlined, so that a comparison of short slices need not save registers for it.
 #[inline(never)]
 fn order_of_long<T: Ord>(items: &[T], others: &[T]) -> Ordering
     ensures order { result ≡ slice_cmp T.cmp items.now others.now }

@@ -1,11 +1,12 @@
-//! Outer forms: what of a null is told to people, which is its update and its place, and not its attempt.
+//! Outer forms: people see of a null its update and its place, but not its attempt.
 ghost use Rattle.std.specs.Prelude.{◌≡◌, ◌↔◌, map, IsTrue, IfOk};
+ghost use Rattle.def_chase.specs.Queries.{holds_null as holds_null_def, is_named as is_named_def};
 ghost use Rattle.def_chase.specs.Values.{outer_datum, outer, same_datum, same_fact};
 ghost use Rattle.base_types.specs.Meanings.{datum_of, fact_of};
 
 use crate::copying::TryCopy;
 use crate::lists::List;
-use crate::nulls::Null;
+use crate::nulls::{Null, OuterName};
 use crate::tuples::Tuple;
 use crate::values::Value;
 use def_memory::Memory;
@@ -27,7 +28,7 @@ impl Value {
         }
     }
 
-    /// Whether the two have one outer form.
+    /// Whether the two have the same outer form.
     pub fn outer_eq(&self, other: &Value) -> bool
         ensures answer { result ≡ same_datum (outer_datum (datum_of self.now))
             (outer_datum (datum_of other.now)) }
@@ -44,10 +45,21 @@ impl Value {
             (Value::Word(_), Value::Null(_)) => false,
         }
     }
+
+    /// Whether it is a null of this name.
+    pub fn is_named(&self, name: OuterName) -> bool
+        ensures answer { result ≡ is_named_def name.update name.place (datum_of self.now) }
+    {
+        match self {
+            Value::Null(null) => null.update == name.update && null.place == name.place,
+            Value::Int(_) => false,
+            Value::Word(_) => false,
+        }
+    }
 }
 
 impl Tuple {
-    /// The outer form: the same tuple, with attempt 0 in each null. A tuple that is its own outer form is shared.
+    /// The outer form: the same tuple, with attempt 0 in each null. If the tuple is its own outer form, its values are shared.
     pub fn outer(&self, alloc: Global) -> Result<Tuple, Memory>
         ensures same { IfOk result (λ form. fact_of form ≡ outer (fact_of self.now)) }
     {
@@ -58,7 +70,7 @@ impl Tuple {
         self.renamed(alloc)
     }
 
-    // The outer form, with values of its own.
+    // The outer form, whose values are a new row.
     fn renamed(&self, alloc: Global) -> Result<Tuple, Memory>
         ensures same { IfOk result (λ form. fact_of form ≡ outer (fact_of self.now)) }
     {
@@ -70,7 +82,7 @@ impl Tuple {
         Tuple::new(alloc, self.relation, values)
     }
 
-    /// Whether the two have one outer form.
+    /// Whether the two have the same outer form.
     pub fn outer_eq(&self, other: &Tuple) -> bool
         ensures answer { result ≡ same_fact (outer (fact_of self.now)) (outer (fact_of other.now)) }
     {
@@ -78,6 +90,16 @@ impl Tuple {
             return false;
         }
         are_outer_eq(self.values.as_slice(), other.values.as_slice())
+    }
+
+    /// Whether it holds a null of this name.
+    pub fn holds_null(&self, name: OuterName) -> bool
+        ensures answer { result ≡ holds_null_def name.update name.place (fact_of self.now) }
+    {
+        self.values
+            .as_slice()
+            .iter()
+            .any(|value| value.is_named(name))
     }
 }
 
@@ -105,7 +127,7 @@ fn is_outer(value: &Value) -> bool
     }
 }
 
-// Whether there are as many values, each with the outer form of the one in its place.
+// Whether both have the same number of values, with the same outer forms place by place.
 fn are_outer_eq(values: &[Value], others: &[Value]) -> bool
     ensures answer { IsTrue result ↔
         (map (λ v. outer_datum (datum_of v)) values.now ≡

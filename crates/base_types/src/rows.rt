@@ -15,11 +15,11 @@ use std::cmp::Ordering;
 use std::marker::Model;
 use std::sync::Arc;
 
-/// Values that are put together one by one.
+/// The values of a row while it is made, value by value.
 pub type ValueList = List<Value>;
 
-/// The values of a tuple by column. They do not change, and copies share them, so that a copy takes no memory. Contracts see
-/// their list.
+/// The values of a tuple by column. They never change, and copies share them, so a copy allocates nothing. Contracts see their
+/// list.
 #[derive(Debug, Drop)]
 pub struct Row {
     values: Option<Arc<ValueList>>,
@@ -65,7 +65,7 @@ impl Row {
         }
     }
 
-    /// How many values there are.
+    /// The number of values.
     pub fn len(&self) -> usize
         ensures length { result ≡ length self.now.items }
     {
@@ -79,21 +79,21 @@ impl Row {
         self.as_slice().is_empty()
     }
 
-    /// The value at a column, counted from 0; None exactly where the row ends before it.
+    /// The value at a column, counted from 0; None exactly if the row ends before it.
     pub fn get(&self, column: usize) -> Option<&Value>
         ensures item { option_copied result ≡ slice_get self.now.items column }
     {
         self.as_slice().get(column)
     }
 
-    /// The order of two rows: the first values that differ decide, and else the lengths do.
+    /// The order of two rows: the first values that differ decide; if none differ, the lengths do.
     pub fn order(&self, other: &Row) -> Ordering
         ensures order { result ≡ slice_cmp datum_cmp (data_of self.now) (data_of other.now) }
     {
         order(self.as_slice(), other.as_slice())
     }
 
-    /// Another handle to the same values. It is refused only where there are too many.
+    /// Another handle to the same values. It is refused only if there are too many handles already.
     pub fn share(&self) -> Result<Row, Memory>
         ensures same { IfOk result (λ row. row ≡ self.now) }
     {

@@ -1,4 +1,4 @@
-//! Functions on nulls: by which value each is replaced.
+//! Substitutions: the value by which each null is replaced.
 ghost use Rattle.std.specs.Prelude.{◌≡◌, ◌<◌, map, find, length, OnOk, OnErr, IfOk, IfSome};
 ghost use Rattle.std.specs.List.{position_from};
 ghost use Rattle.std.specs.Option.{option_map, option_copied};
@@ -13,14 +13,14 @@ use def_memory::Memory;
 use std::alloc::Global;
 use std::marker::Model;
 
-// A null and the value that it is moved to.
+// A null and the value that replaces it.
 #[derive(Debug, Drop)]
 struct Assignment {
     null: Null,
     value: Value,
 }
 
-/// A finite map from nulls to values. Contracts see its pairs, and `images_of` is the function that it means.
+/// A finite map from nulls to values. Contracts see its list of pairs; `images_of` is the function that the list means.
 #[derive(Debug, Drop)]
 pub struct Sub {
     assignments: List<Assignment>,
@@ -38,7 +38,7 @@ impl Model for Sub {
 }
 
 impl Sub {
-    /// The map that moves no null.
+    /// The map in which no null has an image.
     pub fn new(alloc: Global) -> Sub
         ensures empty { images_of result ≡ no_image }
     {
@@ -47,7 +47,7 @@ impl Sub {
         }
     }
 
-    /// The image of a null; None exactly where it has none.
+    /// The image of a null; None exactly if it has none.
     pub fn get(&self, null: Null) -> Option<&Value>
         ensures image { option_map datum_of (option_copied result) ≡
             images_of self.now (null_of null) }

@@ -39,7 +39,7 @@ impl Tuple {
         })
     }
 
-    /// Another handle to the same tuple. It is refused only where there are too many.
+    /// Another handle to the same tuple. It is refused only if there are too many handles already.
     pub fn share(&self) -> Result<Tuple, Memory>
         ensures same { IfOk result (λ tuple. tuple ≡ self.now) }
     {

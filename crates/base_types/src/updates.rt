@@ -1,4 +1,4 @@
-//! What curators ask of the repository, what the chase writes, and how people answer its questions.
+//! The updates of curators, the writes of the chase, and the answers of people to its questions.
 ghost use Rattle.std.specs.Prelude.{◌≡◌, IfOk};
 ghost use Rattle.def_chase.specs.Repository.{Change};
 ghost use Rattle.def_chase.specs.Updates.{Operation as OperationMeant, Choice as ChoiceMeant, direction_of};
@@ -19,11 +19,11 @@ pub enum Write {
     Delete(Tuple),
 }
 
-/// Writes, in turn.
+/// Writes, in the order in which they are made.
 pub type WriteList = List<Write>;
 
-/// What an update asks for: insert a tuple, delete a tuple, replace a null by a value wherever it stands, or put
-/// the mapping of this number in force. Each null in it has attempt 0.
+/// The operation of an update: insert a tuple, delete a tuple, replace a null by a value wherever it stands, or put the mapping
+/// of this number in force. Each null in it has attempt 0.
 #[derive(Debug, Drop)]
 pub enum Operation {
     Insert(Tuple),
@@ -40,7 +40,7 @@ pub struct Update {
     pub operation: Operation,
 }
 
-/// Updates by number, the first of them number 1.
+/// Updates by number; the first has number 1.
 pub type UpdateList = List<Update>;
 
 /// An answer to a question of the chase: insert the generated tuple as it is, unify it with this candidate, or
@@ -55,7 +55,7 @@ pub enum Choice {
 /// Answers, in the order in which they are taken.
 pub type ChoiceList = List<Choice>;
 
-/// Whether an update's violations are repaired by inserting what is missing or by deleting what is too much.
+/// Whether an update's violations are repaired by inserting what is missing or by deleting what is there too much.
 #[derive(Clone, Copy, Debug, PartialEq, Eq)]
 pub enum Direction {
     Forward,
@@ -63,7 +63,7 @@ pub enum Direction {
 }
 
 impl Operation {
-    /// The direction of its repairs: a deletion is repaired by further deletions, everything else by insertions.
+    /// The direction of the update's repairs: a deletion is repaired by further deletions, everything else by insertions.
     pub fn direction(&self) -> Direction
         ensures heading { heading_of result ≡ direction_of (operation_of self.now) }
     {

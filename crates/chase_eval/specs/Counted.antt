@@ -1,4 +1,4 @@
--- Which violations count, in the terms of the definitions of the chase.
+-- The violations that count, in the terms of the definitions of the chase.
 use Rattle.std.specs.Prelude.{◌≡◌, List, Option}
 use Rattle.def_chase.specs.Values.{Fact}
 use Rattle.def_chase.specs.Repository.{Change}
@@ -16,11 +16,11 @@ abbrev pub scope_meant : Counted → Scope
 scope_meant EveryOfProgram = Every
 scope_meant (CausedOfProgram direction) = Caused (heading_of direction)
 
--- By what counts here, the first violation of a mapping is that in this scope of these own writes.
+-- If the violations of `here` count, the first violation of a mapping is its first in this scope of these own writes.
 abbrev pub CountsAs : Scope → List Change → ScopeOfProgram → Type 0
 CountsAs scope own here =
     (m : Rule) (E : List Fact) → first_violation (scope_of here) (own_of here) m E ≡ first_violation scope own m E
 
--- The answer to the query for a first violation, by what counts here.
+-- The reply to the query for a first violation, if the violations of `here` count.
 abbrev pub reply_in : ScopeOfProgram → Option Rule → List Fact → Reply
 reply_in here m E = violation_reply m (scope_of here) (own_of here) E

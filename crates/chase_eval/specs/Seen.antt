@@ -1,4 +1,4 @@
--- What a contract sees of a view.
+-- What contracts see of a view.
 use Rattle.std.specs.Prelude.{◌≡◌, List, ◌++◌}
 use Rattle.def_chase.specs.Values.{Fact}
 use Rattle.def_chase.specs.Repository.{Change, apply}
@@ -11,14 +11,14 @@ pub record Seen : Type 0 where
   pub below : List Fact
   pub own : List Change
 
--- What is seen after these own writes more.
+-- The view after these further own writes.
 abbrev pub written : Seen → List Change → Seen
 written seen more = record { below = seen.below; own = seen.own ++ more }
 
--- The value of the query there, where violations of this scope count.
+-- The value of the query in the view, if the violations of this scope count.
 abbrev pub value_seen : List Rule → Query → Seen → Scope → Reply
 value_seen ms q seen scope = value ms q seen.below seen.own scope
 
--- It is the value of the query over any tuples that these are with the own writes applied.
+-- The reply is the value of the query over each set that becomes E when the own writes are applied.
 abbrev pub IsValueWith : List Rule → Query → List Fact → List Change → Scope → Reply → Type 0
 IsValueWith ms q E own scope reply = (D : List Fact) → E ≡ apply D own → reply ≡ value ms q D own scope

@@ -1,4 +1,4 @@
--- What a contract sees of a watched view, which writes may give a mapping a violation, and which mappings have none.
+-- What contracts see of a watched view, the writes that may give a mapping a violation, and the mappings that have none.
 use Rattle.std.specs.Prelude.{◌≡◌, ℕ, ◌==◌, Bool, true, false, not, ◌||◌, ◌&&◌, List, [], ◌++◌, Option, Some, None, slice_index_or, slice_set, ◌∷◌}
 use Rattle.std.specs.List.{list_any, slice_get}
 use Rattle.def_chase.specs.Values.{Fact}
@@ -15,15 +15,15 @@ pub record Watched : Type 0 where
   pub below : List Fact
   pub own : List Change
 
--- What is seen over these mappings and in this direction.
+-- The view over these mappings and in this direction.
 abbrev pub seen_over : List Rule → Direction → Seen → Watched
 seen_over ms d s = record { rules = ms; heading = d; below = s.below; own = s.own }
 
--- What is seen after these own writes more.
+-- The view after these further own writes.
 abbrev pub watched_on : Watched → List Change → Watched
 watched_on w more = record { rules = w.rules; heading = w.heading; below = w.below; own = w.own ++ more }
 
--- What is seen before any own write.
+-- The view before any own write.
 abbrev pub watched_from : List Rule → Direction → List Fact → Watched
 watched_from ms d E = record { rules = ms; heading = d; below = E; own = [] }
 
@@ -36,17 +36,18 @@ abbrev pub relation_in : Change → ℕ
 relation_in (Insert t) = t.relation
 relation_in (Delete t) = t.relation
 
--- The write may give the mapping a violation: an insertion to a mapping with an atom of its relation on the left, a deletion to one with such an atom on the right.
+-- The write may give the mapping a violation: an insertion, if the mapping has an atom of the tuple's relation on the left; a
+-- deletion, if it has one on the right.
 abbrev pub touches : Change → Option Rule → Bool
 touches w None = false
 touches (Insert t) (Some m) = list_any (λ a. a.relation == t.relation) m.left
 touches (Delete t) (Some m) = list_any (λ a. a.relation == t.relation) m.right
 
--- The mapping of this number has lost its mark if it is touched.
+-- The mapping of this number has lost its mark if it is touched, and keeps it otherwise.
 abbrev pub LosesMark : Bool → ℕ → List Bool → List Bool → Type 0
 LosesMark touched n marks marks' = slice_index_or marks' n false ≡ (slice_index_or marks n false && not touched)
 
--- Each mapping that is touched has lost its mark, and no other.
+-- Exactly the mappings that are touched have lost their marks.
 abbrev pub LoseMarks : (Option Rule → Bool) → List Rule → List Bool → List Bool → Type 0
 LoseMarks touched ms marks marks' = (n : ℕ) → LosesMark (touched (slice_get ms n)) n marks marks'
 
@@ -58,7 +59,7 @@ may_enact w = relation_in w == force_relation
 abbrev pub stirs : Change → Option Rule → Bool
 stirs w m = may_enact w || touches w m
 
--- With no mark none of the own writes may put a mapping in force.
+-- If the mark is false, none of the own writes may put a mapping in force.
 abbrev pub AreForceless : Bool → List Change → Type 0
 AreForceless mark own = mark ≡ false → list_any may_enact own ≡ false
 
@@ -69,14 +70,14 @@ asks_settled marks (Violation n) = slice_index_or marks n false
 asks_settled marks (Specific t) = false
 asks_settled marks (Occurs u k) = false
 
--- The marks, with one for the mapping whose first violation the query asks for.
+-- The marks, with the mapping marked whose first violation the query asks for, if it does.
 abbrev pub with_settled : List Bool → Query → List Bool
 with_settled marks (Present t) = marks
 with_settled marks (Violation n) = slice_set marks n true
 with_settled marks (Specific t) = marks
 with_settled marks (Occurs u k) = marks
 
--- Each mapping that one of the writes stirs has lost its mark, one write after the other.
+-- Exactly the mappings that one of the writes stirs have lost their marks, one write after the other.
 abbrev pub LoseMarksTo : List Change → List Rule → List Bool → List Bool → Type 0
 LoseMarksTo [] ms marks marks' = marks' ≡ marks
 LoseMarksTo (w ∷ ws) ms marks marks' = (mid : List Bool) × LoseMarks (stirs w) ms marks mid × LoseMarksTo ws ms mid marks'

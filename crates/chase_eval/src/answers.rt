@@ -1,4 +1,4 @@
-//! The value of a query over a set in which the own writes stand.
+//! The value of a query over a set that has the own writes already.
 ghost use Rattle.std.specs.Prelude.{◌≡◌, if◌then◌else◌, IfOk};
 ghost use Rattle.def_chase.specs.Queries.{value, Yes, No};
 ghost use Rattle.def_chase.specs.Repository.{has, apply};
@@ -23,7 +23,7 @@ pub(crate) struct Writes<'a> {
     pub(crate) enacts: bool,
 }
 
-/// The value of the query over the set, where these violations count. The own writes stand in it.
+/// The value of the query over the set, if the violations `counted` count. The set has the own writes already.
 pub(crate) fn value_over<F: Facts>(
     alloc: Global,
     query: &Query,
@@ -46,8 +46,8 @@ pub(crate) fn value_over<F: Facts>(
             let found = candidates(alloc, tuple, facts)?;
             Ok(Reply::Tuples(found))
         }
-        Query::Occurs(update, place) => {
-            let found = occurrences(alloc, *update, *place, facts)?;
+        Query::Occurs(name) => {
+            let found = occurrences(alloc, *name, facts)?;
             Ok(Reply::Tuples(found))
         }
     }

@@ -1,4 +1,4 @@
-//! A set of tuples as an update sees it whose own writes stand in it already.
+//! A set of tuples as an update sees it, which has the update's own writes already.
 ghost use Rattle.std.specs.Prelude.{◌≡◌, map, IfOk};
 ghost use Rattle.std.specs.List.{list_any};
 ghost use Rattle.def_chase.specs.Repository.{apply};
@@ -17,11 +17,11 @@ use chase_query::{Query, Reply};
 use std::alloc::Global;
 use std::marker::Model;
 
-/// A set of tuples as an update sees it, where its own writes stand in a set that is there: none of them is applied anew.
-/// Contracts see the tuples below the writes, and the writes.
+/// A set of tuples as an update sees it, given with its own writes already made, so that none is applied again. Contracts see the
+/// tuples below the writes, and the writes.
 #[derive(Drop)]
 pub struct AppliedView<'a, F: Facts> {
-    // The set without the writes, of which contracts speak.
+    // The set without the writes. Only contracts speak of it.
     below: &'a F,
     with: &'a F,
     own: &'a WriteList,
@@ -46,7 +46,7 @@ impl<'a, F: Facts> Model for AppliedView<'a, F> {
 }
 
 impl<'a, F: Facts> AppliedView<'a, F> {
-    /// The set below these own writes, where `with` is that set with them.
+    /// The view of `below` with the own writes, if `with` is `below` with these writes made.
     pub fn new(below: &'a F, with: &'a F, own: &'a WriteList) -> AppliedView<'a, F>
         requires applied { F.tuples with.now ≡ apply (F.tuples below.now) (changes_of own.now) }
         ensures seen { result ≡ record { below = F.tuples below.now; own = changes_of own.now } }
@@ -59,9 +59,9 @@ impl<'a, F: Facts> AppliedView<'a, F> {
         }
     }
 
-    /// The value of the query, where of violations only those count that the own writes caused in the direction. Forward, a
-    /// mapping that they put in force is looked at whole; one that is not in the list has no violation. A settled mapping is not
-    /// searched, and one without a violation is settled.
+    /// The value of the query. Only those violations count that the own writes caused in the direction; forward, if they put the
+    /// mapping in force, all its violations count. A mapping that is not in the list has none. A settled mapping is not searched;
+    /// if a search finds no violation, it settles the mapping.
     pub fn eval(
         &self,
         query: &Query,
@@ -88,7 +88,7 @@ impl<'a, F: Facts> AppliedView<'a, F> {
         Ok(answer)
     }
 
-    // The value of the query, where of violations only those count that the own writes caused in the direction.
+    // The value of the query. Only those violations count that the own writes caused in the direction.
     fn value(
         &self,
         query: &Query,

@@ -1,9 +1,8 @@
 //! The values of queries over a set of tuples, as an update sees it: with its own writes applied.
 //!
-//! A `View` is the set with the writes applied, and answers any number of queries. `eval` and `eval_all` make one for
-//! a single query. An `AppliedView` is over a set in which the writes stand already. A `WatchedView` is a view of one
-//! update that does not search a mapping for violations again where nothing can have changed. The value of a query is
-//! `value` of `def_chase`.
+//! A `View` is the set with the writes applied, and answers any number of queries. `eval` and `eval_all` make one for a single
+//! query. An `AppliedView` is over a set that has the writes already. A `WatchedView` is the view of one update, and does not
+//! search a mapping for violations again if nothing can have changed. The value of a query is `value` of `def_chase`.
 #![tactic(auto)]
 
 mod answers;

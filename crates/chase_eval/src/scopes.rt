@@ -1,4 +1,4 @@
-//! Which violations count at a query, and the first of them.
+//! The violations that count at a query, and the first of them.
 ghost use Rattle.std.specs.Prelude.{◌≡◌, ◌||◌, [], ◌∷◌, map, pos, IfOk};
 ghost use Rattle.std.specs.Bool.{Decides};
 ghost use Rattle.std.specs.List.{list_any};
@@ -20,7 +20,7 @@ use chase_query::Reply;
 use chase_violation::{Scope, first_image as violating_image};
 use std::alloc::Global;
 
-/// Which violations count: every one, or those that the own writes caused in a direction.
+/// The violations that count: all, or only those that the own writes caused in a direction.
 #[derive(Clone, Copy)]
 pub(crate) enum Counted {
     Every,
@@ -44,8 +44,8 @@ pub(crate) fn enacts_with(enacts: bool, write: &Write) -> bool
     enacts || relation_of(write) == FORCE_RELATION
 }
 
-/// Which violations of the mapping of this number count: forward, every one where the own writes put it in force.
-/// `enacts` says whether one of them may put any mapping in force.
+/// The violations of mapping `number` that count: forward, all if the own writes put it in force. `enacts` says whether one of
+/// the writes may put any mapping in force.
 pub(crate) fn scope_at(counted: Counted, own: &WriteList, enacts: bool, number: u16) -> Scope<'_>
     requires { AreForceless enacts (changes_of own.now) }
     ensures same { CountsAs (scope_at_def (scope_meant counted) (changes_of own.now) number)
@@ -64,7 +64,7 @@ pub(crate) fn scope_at(counted: Counted, own: &WriteList, enacts: bool, number: 
     }
 }
 
-// Whether a write puts the mapping of this number in force. Only where one may put any in force are they gone over.
+// Whether a write puts the mapping of this number in force. The writes are searched only if `enacts` holds.
 fn is_put_in_force(writes: &WriteList, enacts: bool, number: u16) -> bool
     requires { AreForceless enacts (changes_of writes.now) }
     ensures answer { result ≡ list_any (inserts (force number)) (changes_of writes.now) }
@@ -107,8 +107,7 @@ fn is_alone(values: &[Value], number: u16) -> bool
     values == alone.as_slice()
 }
 
-/// The image of the mapping's first violation among those that count, or that there is none; where there is no mapping there is
-/// none.
+/// The image of the mapping's first violation that counts, or the reply that there is none. Without a mapping there is none.
 pub(crate) fn first_image<F: Facts>(
     alloc: Global,
     mapping: Option<&Mapping>,

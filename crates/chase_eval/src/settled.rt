@@ -1,4 +1,4 @@
-//! Which mappings are settled: nothing that was written since they were last looked at can have given them a violation.
+//! Settled mappings: no write since they were last searched can have given them a violation.
 ghost use Rattle.std.specs.Prelude.{◌≡◌, ◌==◌, ◌&&◌, ℕ, true, false, not, Some, slice_index_or, slice_set, replicate, map, IfOk};
 ghost use Rattle.std.specs.List.{list_any};
 ghost use Rattle.base_types.specs.Meanings.{change_of, pattern_of, rule_of};
@@ -29,7 +29,7 @@ impl Model for Settled {
 }
 
 impl Settled {
-    /// So many mappings, all of them settled.
+    /// `count` mappings, all settled.
     pub fn all(alloc: Global, count: usize) -> Result<Settled, Memory>
         ensures all { IfOk result (λ settled. settled ≡ replicate count true) }
     {
@@ -39,7 +39,7 @@ impl Settled {
         }
     }
 
-    /// So many mappings, none of them settled.
+    /// `count` mappings, none settled.
     pub fn none(alloc: Global, count: usize) -> Result<Settled, Memory>
         ensures none { IfOk result (λ settled. settled ≡ replicate count false) }
     {
@@ -49,7 +49,7 @@ impl Settled {
         }
     }
 
-    /// Another one with the same marks.
+    /// A copy with the same marks.
     pub fn copy(&self, alloc: Global) -> Result<Settled, Memory>
         ensures same { IfOk result (λ copy. copy ≡ self.now) }
     {
@@ -65,7 +65,7 @@ impl Settled {
         &self.marks
     }
 
-    /// Whether the mapping of this number is settled. One that is not in the list is not.
+    /// Whether the mapping of this number is settled; no if it is not in the list.
     pub fn has(&self, number: u16) -> bool
         ensures mark { result ≡ slice_index_or self.now number false }
     {
@@ -89,7 +89,7 @@ impl Settled {
             Query::Violation(number) => self.has(*number),
             Query::Present(_) => false,
             Query::Specific(_) => false,
-            Query::Occurs(_, _) => false,
+            Query::Occurs(_) => false,
         }
     }
 
@@ -101,11 +101,11 @@ impl Settled {
             Query::Violation(number) => self.settle(*number),
             Query::Present(_) => {}
             Query::Specific(_) => {}
-            Query::Occurs(_, _) => {}
+            Query::Occurs(_) => {}
         }
     }
 
-    /// Stirs the mappings to which one of the writes may give a violation, which are found by what the mappings touch.
+    /// Unsettles the mappings to which one of the writes may give a violation. They are looked up in `touching`.
     pub fn stir_all(&mut self, touching: &Touching, mappings: &MappingList, writes: &[Write])
         requires touching { IsTouching (rules_in mappings.now) touching.now }
         ensures left { LoseMarksTo (map change_of writes.now) (rules_in mappings.now) self.old
@@ -116,9 +116,9 @@ impl Settled {
         }
     }
 
-    /// Stirs the mappings to which the write may give a violation: by an insertion those with an atom of its relation on
-    /// the left, by a deletion those with one on the right, and all of them where it may put a mapping in force. They are
-    /// found by what the mappings touch, where that is given.
+    /// Unsettles the mappings to which the write may give a violation. For an insertion these have an atom of its relation on the
+    /// left, for a deletion on the right; if the write may put a mapping in force, they are all mappings. They are looked up in
+    /// `touching`, if it is given.
     pub(crate) fn stir_by(
         &mut self,
         touching: Option<&Touching>,
@@ -152,7 +152,7 @@ impl Settled {
         }
     }
 
-    // Stirs the mappings that the write touches.
+    // Unsettles the mappings that the write touches.
     fn stir_touched(&mut self, mappings: &MappingList, write: &Write)
         ensures left { LoseMarks (touches_def (change_of write.now))
             (rules_in mappings.now) self.old self.new }
@@ -162,7 +162,7 @@ impl Settled {
         }
     }
 
-    // Stirs the mapping, of this number, if the write touches it.
+    // Unsettles the mapping, which has this number, if the write touches it.
     fn stir_one(&mut self, number: usize, mapping: &Mapping, write: &Write)
         ensures mark { LosesMark (touches_def (change_of write.now)
             (Some (rule_of mapping.now))) number self.old self.new }

@@ -1,4 +1,4 @@
-//! For each relation the mappings that a write of it may give a violation.
+//! For each relation the mappings to which a write of its tuples may give a violation.
 ghost use Rattle.std.specs.Prelude.{◌≡◌, ◌==◌, ℕ, List, ◌||◌, ◌&&◌, map, IfOk, IfSome, OnOk};
 ghost use Rattle.std.specs.List.{slice_get};
 ghost use Rattle.std.specs.Option.{option_copied};
@@ -13,8 +13,8 @@ use crate::settled::stands_in;
 use base_types::{AtomList, Direction, Mapping, MappingList, Memory, Write};
 use std::alloc::Global;
 
-/// For each relation the numbers of the mappings with an atom of it, on the left and on the right. It is made once for mappings
-/// of which many views are made.
+/// For each relation the numbers of the mappings with an atom of it, on the left and on the right. It is made once for many views
+/// over the same mappings.
 #[derive(Drop)]
 pub struct Touching {
     left: Vec<Vec<usize>>,
@@ -22,7 +22,7 @@ pub struct Touching {
 }
 
 impl Touching {
-    /// Those of these mappings.
+    /// The numbers for these mappings.
     pub fn of(alloc: Global, mappings: &MappingList) -> Result<Touching, Memory>
         ensures touching { IfOk result (IsTouching (rules_in mappings.now)) }
     {
@@ -32,7 +32,7 @@ impl Touching {
         Ok(Touching { left, right })
     }
 
-    /// The numbers of the mappings that the write touches, as far as they were looked for.
+    /// The numbers of the mappings that the write touches; None if its relation has no row.
     pub(crate) fn numbers(&self, write: &Write) -> Option<&Vec<usize>>
         ensures numbers { IfSome result (λ row. (ms : List Rule) (n : ℕ) → IsTouching ms self.now →
             is_among row.now.items n ≡ touches (change_of write.now) (slice_get ms n)) }
@@ -51,7 +51,7 @@ fn row_at(rows: &Vec<Vec<usize>>, relation: u16) -> Option<&Vec<usize>>
     rows.get(relation as usize)
 }
 
-// A number above that of each relation in an atom, if it is not the last number that there is.
+// A number above every relation in an atom; at most the greatest `u16`.
 fn bound(mappings: &MappingList) -> u16 {
     let mut bound = 0;
     for mapping in mappings.as_slice() {
@@ -60,7 +60,7 @@ fn bound(mappings: &MappingList) -> u16 {
     bound
 }
 
-// The same with these atoms.
+// The bound, raised above every relation in these atoms.
 fn bound_with(bound: u16, atoms: &AtomList) -> u16 {
     let mut bound = bound;
     for atom in atoms.as_slice() {
@@ -69,7 +69,7 @@ fn bound_with(bound: u16, atoms: &AtomList) -> u16 {
     bound
 }
 
-// For each relation below the bound the mappings with an atom of it on a side: on the left forward, on the right backward.
+// For each relation below the bound the mappings with an atom of it on a side: forward on the left, backward on the right.
 fn rows(
     alloc: Global,
     mappings: &MappingList,
@@ -118,7 +118,7 @@ fn side_of(mapping: &Mapping, direction: Direction) -> &AtomList
     }
 }
 
-// Adds the number, if the mapping stands there.
+// Adds the number if `stands` holds.
 fn note(row: &mut Vec<usize>, number: usize, stands: bool) -> Result<(), Memory>
     ensures noted { OnOk result ((n : ℕ) → is_among row.new.items n ≡
         (is_among row.old.items n || (stands && number == n))) }

@@ -11,8 +11,8 @@ use base_types::{Direction, Facts, MappingList, Memory, WriteList};
 use chase_query::{Query, Reply};
 use std::alloc::Global;
 
-/// The value of the query over the set with the own writes applied, where of violations only those count that they caused in the
-/// direction. Forward, a mapping that they put in force is looked at whole; one that is not in the list has no violation.
+/// The value of the query over the set with the own writes applied. Only those violations count that the own writes caused in the
+/// direction; forward, if they put the mapping in force, all its violations count. A mapping that is not in the list has none.
 pub fn eval<F: Facts>(
     alloc: Global,
     query: &Query,
@@ -30,8 +30,8 @@ pub fn eval<F: Facts>(
     view.eval(query, mappings, direction, alloc)
 }
 
-/// The value of the query over the set with the own writes applied, where every violation counts. A mapping that is not in the
-/// list has none.
+/// The value of the query over the set with the own writes applied. Every violation counts. A mapping that is not in the list has
+/// none.
 pub fn eval_all<F: Facts>(
     alloc: Global,
     query: &Query,

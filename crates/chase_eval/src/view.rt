@@ -16,11 +16,11 @@ use set_facts::Overlay;
 use std::alloc::Global;
 use std::marker::Model;
 
-/// A set of tuples as an update sees it: with its own writes applied, to which more can be added. It borrows the set,
-/// and keeps a copy of the writes. Contracts see the tuples below the writes, and the writes.
+/// A set of tuples as an update sees it: with its own writes applied. More writes can be added. It borrows the set, and keeps a
+/// copy of the writes. Contracts see the tuples below the writes, and the writes.
 #[derive(Drop)]
 pub struct View<'a, F: Facts> {
-    // The set without the writes, of which contracts speak.
+    // The set without the writes. Only contracts speak of it.
     below: &'a F,
     own: WriteList,
     // Whether an own write may put a mapping in force.
@@ -57,7 +57,7 @@ impl<'a, F: Facts> View<'a, F> {
         }
     }
 
-    /// Adds an own write. If it is refused, the view is the same.
+    /// Adds an own write. If it is refused, the view is unchanged.
     pub fn write(&mut self, alloc: Global, write: &Write) -> Result<(), Memory>
         ensures ok { OnOk result (self.new ≡ written self.old (change_of write.now ∷ [])) }
         ensures err { OnErr result (self.new ≡ self.old) }
@@ -70,7 +70,7 @@ impl<'a, F: Facts> View<'a, F> {
         Ok(())
     }
 
-    /// Adds own writes in turn. If it is refused, the first so many of them are added, and the others are not.
+    /// Adds own writes in turn. If it is refused, some first part of them is added, and the others are not.
     pub fn write_all(&mut self, alloc: Global, writes: &[Write]) -> Result<(), Memory>
         ensures ok { OnOk result (self.new ≡ written self.old (map change_of writes.now)) }
         ensures err { OnErr result
@@ -82,8 +82,8 @@ impl<'a, F: Facts> View<'a, F> {
         Ok(())
     }
 
-    /// The value of the query, where of violations only those count that the own writes caused in the direction. Forward, a
-    /// mapping that they put in force is looked at whole; one that is not in the list has no violation.
+    /// The value of the query. Only those violations count that the own writes caused in the direction; forward, if they put the
+    /// mapping in force, all its violations count. A mapping that is not in the list has none.
     pub fn eval(
         &self,
         query: &Query,
@@ -98,7 +98,7 @@ impl<'a, F: Facts> View<'a, F> {
         self.value(query, mappings, Counted::Caused(direction), alloc)
     }
 
-    /// The value of the query, where every violation counts. A mapping that is not in the list has none.
+    /// The value of the query. Every violation counts. A mapping that is not in the list has none.
     pub fn eval_all(
         &self,
         query: &Query,
@@ -111,7 +111,7 @@ impl<'a, F: Facts> View<'a, F> {
         self.value(query, mappings, Counted::Every, alloc)
     }
 
-    // The value of the query, where these violations count.
+    // The value of the query, if the violations `counted` count.
     fn value(
         &self,
         query: &Query,

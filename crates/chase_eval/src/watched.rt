@@ -1,4 +1,4 @@
-//! A set of tuples as one update sees it, that does not look again where nothing can have changed.
+//! A set of tuples as one update sees it, which does not search again if nothing can have changed.
 ghost use Rattle.std.specs.Prelude.{◌≡◌, ◌∷◌, [], true, map, IfOk, OnErr, OnOk};
 ghost use Rattle.def_chase.specs.Queries.{value, Nothing};
 ghost use Rattle.base_types.specs.Meanings.{rule_of, change_of, heading_of};
@@ -16,9 +16,9 @@ use chase_query::{Query, Reply};
 use std::alloc::Global;
 use std::marker::Model;
 
-/// A set of tuples as an update sees it that repairs in one direction: with its own writes applied, to which more can
-/// be added. It knows which mappings are settled, and does not search them for violations again. Contracts see the
-/// mappings, the direction, the tuples below the writes, and the writes; what it remembers they do not see.
+/// A set of tuples as an update that repairs in one direction sees it: with its own writes applied. More writes can be added. It
+/// knows which mappings are settled, and does not search them for violations again. Contracts see the mappings, the direction,
+/// the tuples below the writes, and the writes, but not what it remembers.
 #[derive(Drop)]
 pub struct WatchedView<'a, F: Facts> {
     view: View<'a, F>,
@@ -74,7 +74,7 @@ impl<'a, F: Facts> WatchedView<'a, F> {
         })
     }
 
-    /// The same with what the mappings touch, which spares looking at each of them at every write.
+    /// The set before any own write. With `touching` a write need not look at every mapping.
     pub fn with(
         alloc: Global,
         below: &'a F,
@@ -96,7 +96,7 @@ impl<'a, F: Facts> WatchedView<'a, F> {
         })
     }
 
-    /// Adds an own write. If it is refused, the view is the same.
+    /// Adds an own write. If it is refused, the view is unchanged.
     pub fn write(&mut self, alloc: Global, write: &Write) -> Result<(), Memory>
         ensures ok { OnOk result (self.new ≡ watched_on self.old (change_of write.now ∷ [])) }
         ensures err { OnErr result (self.new ≡ self.old) }
@@ -106,7 +106,7 @@ impl<'a, F: Facts> WatchedView<'a, F> {
         Ok(())
     }
 
-    /// Adds own writes in turn. If it is refused, the first so many of them are added, and the others are not.
+    /// Adds own writes in turn. If it is refused, some first part of them is added, and the others are not.
     pub fn write_all(&mut self, alloc: Global, writes: &[Write]) -> Result<(), Memory>
         ensures ok { OnOk result (self.new ≡ watched_on self.old (map change_of writes.now)) }
         ensures err { OnErr result
@@ -118,8 +118,8 @@ impl<'a, F: Facts> WatchedView<'a, F> {
         Ok(())
     }
 
-    /// The value of the query, where of violations only those count that the own writes caused in the direction. Forward, a
-    /// mapping that they put in force is looked at whole; one that is not in the list has no violation.
+    /// The value of the query. Only those violations count that the own writes caused in the direction; forward, if they put the
+    /// mapping in force, all its violations count. A mapping that is not in the list has none.
     pub fn eval(&mut self, query: &Query, alloc: Global) -> Result<Reply, Memory>
         ensures value { IfOk result (λ answer. reply_of answer ≡
             value_in self.old (query_of query.now)) }
@@ -135,7 +135,7 @@ impl<'a, F: Facts> WatchedView<'a, F> {
         Ok(answer)
     }
 
-    /// A mark for each mapping by number that is settled: it has no violation that counts.
+    /// A mark for each mapping by number: a settled mapping has no violation that counts.
     pub fn settled(&self) -> &[bool]
         ensures nothing { AreSettled self.now result.now }
     {

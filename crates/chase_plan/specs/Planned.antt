@@ -1,4 +1,4 @@
--- The next step of an attempt over what lies below it: the attempt after it, and its reads.
+-- The next step of an attempt over the repository below it: the attempt after the step, and its reads.
 use Rattle.std.specs.Prelude.{◌≡◌, ℕ, Bool, List, length, map, Option, Some, None}
 use Rattle.def_machine.specs.Trees.{result_of, log_of}
 use Rattle.def_chase.specs.Values.{Fact}
@@ -18,16 +18,16 @@ use Rattle.chase_update.specs.Wishes.{Wish, WishesStep, Fits}
 abbrev pub at_rest : Attempt → State
 at_rest P = record { attempt = P; reading = None }
 
--- A step with this answer is wanted, or one without.
+-- The attempt wants a step with this answer, or a step without one.
 abbrev pub WantsStep : Wish → Option Choice → Type 0
 WantsStep w None = w ≡ WishesStep
 WantsStep w (Some c) = Fits w c
 
--- How its queries are answered over D: of violations those count that it caused.
+-- The answers to the attempt's queries over D. Only those violations count that it caused.
 abbrev pub answers_over : List Rule → List Fact → Attempt → Query → Reply
 answers_over ms D P q = value ms q D P.own (Caused (direction_of P.operation))
 
--- Over D its writes have caused no violation of the mappings with a mark.
+-- Over D the attempt's writes have caused no violation of the mappings with a mark.
 abbrev pub HasSettled : List Rule → List Fact → Attempt → List Bool → Type 0
 HasSettled ms D P marks = AreSettled (record { rules = ms; heading = direction_of P.operation; below = D; own = P.own }) marks
 

@@ -1,4 +1,4 @@
--- Which mappings the log of an attempt tells to be settled.
+-- The mappings that are settled by the log of an attempt.
 use Rattle.std.specs.Prelude.{◌≡◌, ℕ, Bool, true, if◌then◌else◌, List, [], ◌∷◌, take}
 use Rattle.std.specs.List.{list_all}
 use Rattle.def_chase.specs.Values.{Fact}
@@ -14,7 +14,7 @@ use Rattle.def_steps.specs.Attempts.{Attempt}
 abbrev pub is_valid_over : List Rule → List Fact → Attempt → Read → Bool
 is_valid_over ms D P r = same_reply r.reply (value ms r.query D (take r.own P.own) (Caused (direction_of P.operation)))
 
--- Each of the reads is.
+-- Each of the reads is valid over D.
 abbrev pub AreValidOver : List Rule → List Fact → Attempt → List Read → Type 0
 AreValidOver ms D P rs = list_all (is_valid_over ms D P) rs ≡ true
 
@@ -22,11 +22,11 @@ AreValidOver ms D P rs = list_all (is_valid_over ms D P) rs ≡ true
 abbrev pub HasSettledBy : ℕ → List Rule → List Fact → Attempt → List Bool → Type 0
 HasSettledBy n ms D P marks = AreSettled (record { rules = ms; heading = direction_of P.operation; below = D; own = take n P.own }) marks
 
--- The marks, with one for the mapping of which the read tells that it has no violation.
+-- The marks, with the mapping marked that has no violation by the read, if there is one.
 abbrev pub noted : List Bool → Read → List Bool
 noted marks r = if same_reply r.reply Nothing then with_settled marks r.query else marks
 
--- The same of all the reads.
+-- The marks, with the mappings marked that have no violation by one of the reads.
 abbrev pub all_noted : List Bool → List Read → List Bool
 all_noted marks [] = marks
 all_noted marks (r ∷ rs) = all_noted (noted marks r) rs

@@ -1,4 +1,4 @@
-//! The next step of an attempt, planned over what lies below it while the attempt stays as it is.
+//! The next step of an attempt, planned over the repository below it while the attempt stays unchanged.
 #![tactic(auto)]
 
 mod plans;

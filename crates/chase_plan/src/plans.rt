@@ -21,7 +21,7 @@ use chase_query::{Logged, LoggedRead, ReadLog};
 use chase_update::{Attempt, Want};
 use std::alloc::Global;
 
-// Room for so many entries of the log is made before the first of them.
+// A new log has room for this number of entries.
 const AT_ONCE: usize = 4;
 
 /// The next step of an attempt: the attempt after it, and the reads of the step in order.
@@ -31,23 +31,23 @@ pub struct Plan {
     pub reads: ReadLog,
 }
 
-/// The chase that an attempt is a part of: its mappings, and how many steps an update may take.
+/// The chase that an attempt is part of: its mappings, and the number of steps that an update may take.
 #[derive(Drop)]
 pub struct Chase<'a> {
     pub mappings: &'a Mappings<'a>,
     pub budget: Budget,
 }
 
-/// What an attempt stands on: what lies below it, and the same with its own writes made.
+/// The ground of an attempt: the repository below it, and the same repository with the attempt's own writes made.
 #[derive(Drop)]
 pub struct Footing<'a, F: Facts> {
     pub below: &'a F,
     pub with: &'a F,
 }
 
-/// The next step of the attempt on its footing, with the answer where it is at a question. It is made on the branch, a copy of
-/// the attempt, which stays as it is. `settled` is the mappings of which it is known that they have no violation that the
-/// attempt's writes caused; those of which it is known after the step are put in their place.
+/// The next step of the attempt on its footing, with the answer if it is at a question. The step is made on `branch`, a copy of
+/// the attempt, and the attempt stays unchanged. `settled` marks mappings known to have no violation that the attempt's writes
+/// caused; after the call it marks those known after the step.
 pub fn plan_step<F: Facts>(
     alloc: Global,
     program: &Attempt,
@@ -89,7 +89,7 @@ pub fn plan_step<F: Facts>(
     }
 }
 
-// Takes the next step of the attempt on a copy of it, and gives its reads.
+// Takes the next step of the attempt on `after`, a copy of it, and returns the step's reads.
 fn take_step<F: Facts>(
     alloc: Global,
     program: &Attempt,
@@ -116,7 +116,7 @@ fn take_step<F: Facts>(
     ensures settled { OnOk result (HasSettled chase.now.mappings.now
         (F.tuples footing.now.below.now) program.now.attempt settled.new) }
 {
-    // The set tells that it is in order.
+    // The set promises that it is in order.
     footing.below.is_in_order();
     let mappings = chase.mappings;
     let own = program.own();
@@ -151,8 +151,8 @@ fn begin(
     }
 }
 
-// Answers the queries of the step in hand from the view, up to the step's end, and gives the reads. So many own writes had
-// been made before the step.
+// Answers the queries of the step in hand from the view, up to the step's end, and returns the reads. `made` is the number of own
+// writes before the step.
 fn answer_all<F: Facts>(
     alloc: Global,
     program: &mut Attempt,

@@ -1,4 +1,4 @@
-//! Mappings that need not be searched anew: what the last reads of an attempt told is true still.
+//! Mappings that need not be searched again, since the last reads of an attempt still hold.
 ghost use Rattle.std.specs.Prelude.{◌≡◌, ◌-◌, List, drop, map, IfOk};
 ghost use Rattle.base_types.specs.Meanings.{change_of};
 ghost use Rattle.def_chase.specs.Mappings.{Rule};
@@ -15,10 +15,10 @@ use chase_query::{Logged, LoggedRead, Passage, Reply};
 use chase_update::Attempt;
 use std::alloc::Global;
 
-/// The mappings of which the last reads of the attempt tell that its writes have caused no violation, and before its first write
-/// all of them, but for those to which a write since then may have given one; none where the attempt is not looking for
-/// violations. That is so over any tuples over which its reads are valid, as they are over what lies below an update at any
-/// moment of a history.
+/// The settled mappings of an attempt. If it is looking for violations, these are the mappings of which its last reads say that
+/// its writes have caused no violation; before its first write, these are all mappings. Mappings to which a write since then may
+/// have given a violation are not among them. If it is not looking, there are none. This holds over any tuples over which its
+/// reads are valid, as they are over the repository below an update at any moment of a history.
 pub fn settled_by(
     alloc: Global,
     mappings: &TouchedMappings<'_>,
@@ -37,7 +37,7 @@ pub fn settled_by(
     Ok(settled)
 }
 
-/// The same, whether the attempt is looking for violations or not.
+/// The settled mappings as in `settled_by`, whether or not the attempt is looking for violations.
 pub fn told_by(
     alloc: Global,
     mappings: &TouchedMappings<'_>,
@@ -55,7 +55,7 @@ pub fn told_by(
     Ok(settled)
 }
 
-/// Takes away the marks of the mappings to which one of the attempt's writes behind the first so many may have given a violation.
+/// Unsettles the mappings to which one of the attempt's writes after the first `made` may have given a violation.
 pub fn stir_since(
     settled: &mut Settled,
     mappings: &TouchedMappings<'_>,
@@ -69,7 +69,7 @@ pub fn stir_since(
     mappings.stir(settled, since(program.own().as_slice(), made));
 }
 
-// How many writes had been made before the last reads; none where nothing was read.
+// The number of writes made before the last reads; 0 if nothing was read.
 fn made_before(log: &[Logged]) -> u64 {
     match log.last() {
         Some(last) => last.own(),
@@ -77,8 +77,7 @@ fn made_before(log: &[Logged]) -> u64 {
     }
 }
 
-// The marks to begin with, where so many writes had been made: before the first of them no mapping has a violation that they
-// caused, and of later ones nothing is known.
+// The marks to begin with after `made` writes: if there are none, all mappings are settled, otherwise none is.
 fn begun(alloc: Global, mappings: &TouchedMappings<'_>, made: u64) -> Result<Settled, Memory>
     ensures begun { IfOk result (λ settled. (D : List Fact) (P : AttemptMeant) →
         HasSettledBy made mappings.now D P settled) }
@@ -91,7 +90,7 @@ fn begun(alloc: Global, mappings: &TouchedMappings<'_>, made: u64) -> Result<Set
     Ok(settled)
 }
 
-// Learns of the last reads, by an attempt that had made so many writes.
+// Learns from the last reads, by an attempt that had made `made` writes.
 fn learn_last(settled: &mut Settled, log: &[Logged], made: u64)
     ensures learnt { (ms : List Rule) (D : List Fact) (P : AttemptMeant) →
         AreValidOver ms D P (reads_in log.now) →
@@ -107,7 +106,7 @@ fn learn_last(settled: &mut Settled, log: &[Logged], made: u64)
     }
 }
 
-// Settles the mappings of which the entry tells that they have no violation.
+// Settles the mappings that have no violation by the entry.
 fn note(settled: &mut Settled, entry: &Logged)
     ensures noted { settled.new ≡ all_noted settled.old (reads_of entry.now) }
 {
@@ -117,7 +116,7 @@ fn note(settled: &mut Settled, entry: &Logged)
     }
 }
 
-// Settles the mapping of which the read tells that it has no violation, if it does.
+// Settles the mapping that has no violation by the read, if there is one.
 fn note_read(settled: &mut Settled, read: &LoggedRead)
     ensures noted { settled.new ≡ noted settled.old (read_of read.now) }
 {
@@ -136,7 +135,7 @@ fn note_passage(settled: &mut Settled, passage: &Passage)
     }
 }
 
-/// The writes behind the first so many.
+/// The writes after the first `made`.
 pub fn since(own: &[Write], made: u64) -> &[Write]
     ensures since { map change_of result.now ≡ drop made (map change_of own.now) }
 {

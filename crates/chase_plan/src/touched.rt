@@ -1,4 +1,4 @@
-//! The mappings of a session, with what the writes of each relation touch.
+//! The mappings of a session, with those that the writes of each relation touch.
 ghost use Rattle.std.specs.Prelude.{◌≡◌, map, IfOk};
 ghost use Rattle.base_types.specs.Meanings.{change_of, rule_of};
 ghost use Rattle.chase_eval.specs.Touching.{IsTouching};
@@ -10,8 +10,8 @@ use chase_eval::{Settled, Touching};
 use std::alloc::Global;
 use std::marker::Model;
 
-/// The mappings of a session, and for each relation those that a write of it may give a violation. It is made once for many
-/// updates. Contracts see the rules that the mappings stand for.
+/// The mappings of a session, and for each relation those to which a write of its tuples may give a violation. It is made once
+/// for many updates. Contracts see the rules that the mappings stand for.
 #[derive(Drop)]
 pub struct TouchedMappings<'a> {
     all: Mappings<'a>,
@@ -49,21 +49,21 @@ impl<'a> TouchedMappings<'a> {
         &self.all
     }
 
-    /// The list that they stand in.
+    /// The list of the mappings.
     pub fn list(&self) -> &'a MappingList
         ensures rules { map rule_of result.now.items ≡ self.now }
     {
         self.all.list()
     }
 
-    /// For each relation the mappings that a write of it may give a violation.
+    /// For each relation the mappings to which a write of its tuples may give a violation.
     pub fn touching(&self) -> &Touching
         ensures touching { IsTouching self.now result.now }
     {
         &self.touching
     }
 
-    /// Takes away the marks of the mappings to which one of the writes may give a violation.
+    /// Unsettles the mappings to which one of the writes may give a violation.
     pub fn stir(&self, settled: &mut Settled, writes: &[Write])
         ensures left { LoseMarksTo (map change_of writes.now) self.now settled.old settled.new }
     {

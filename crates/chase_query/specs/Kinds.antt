@@ -1,4 +1,4 @@
--- Which answers are of a query's kind: those that it may have over some repository.
+-- The answers of a query's kind: those that it may have over some repository.
 use Rattle.std.specs.Prelude.{◌≡◌, Bool, true, List, Option, Some, None}
 use Rattle.std.specs.List.{list_all, slice_get}
 use Rattle.def_chase.specs.Values.{Fact}
@@ -41,7 +41,8 @@ IsListOf p (Image ts) = ⊥
 IsListOf p Nothing = ⊥
 IsListOf p (Tuples ts) = AreInOrder p ts
 
--- The answer is of the query's kind: for `Present`, yes or no; for `Violation`, nothing or the image of the mapping's left side under some binding; for `Specific`, more specific tuples in order; for `Occurs`, tuples that hold the null, in order.
+-- The answer is of the query's kind: for `Present`, yes or no; for `Violation`, nothing or the image of the mapping's left side
+-- under some binding; for `Specific`, more specific tuples in order; for `Occurs`, tuples that hold the null, in order.
 abbrev pub IsOfKind : List Rule → Query → Reply → Type 0
 IsOfKind ms (Present t) r = IsYesOrNo r
 IsOfKind ms (Violation n) r = IsImageOf (slice_get ms n) r

@@ -1,4 +1,4 @@
--- What queries, answers and logged reads mean.
+-- The meanings of queries, answers and logged reads.
 use Rattle.std.specs.Prelude.{ℕ, zero, suc, ◌-◌, List, [], ◌∷◌, ◌++◌, map}
 use Rattle.chase_query.specs.declared.queries.Query.{Query as QueryOfProgram}
 use Rattle.chase_query.specs.declared.queries.Query.TheVariants.{Present as PresentQuery, Violation as ViolationQuery, Specific as SpecificQuery, Occurs as OccursQuery}
@@ -15,9 +15,9 @@ abbrev pub query_of : QueryOfProgram → Query
 query_of (PresentQuery t) = Present (fact_of t)
 query_of (ViolationQuery n) = Violation n
 query_of (SpecificQuery t) = Specific (fact_of t)
-query_of (OccursQuery u k) = Occurs u k
+query_of (OccursQuery n) = Occurs n.update n.place
 
--- The reply that an `Reply` stands for.
+-- The reply that a `Reply` stands for.
 abbrev pub reply_of : ReplyOfProgram → Reply
 reply_of YesAnswer = Yes
 reply_of NoAnswer = No
@@ -25,7 +25,7 @@ reply_of (ImageAnswer ts) = Image (map fact_of ts.items)
 reply_of NothingAnswer = Nothing
 reply_of (TuplesAnswer ts) = Tuples (map fact_of ts.items)
 
--- A read: what was asked, what was answered, and how many own writes had been made before.
+-- A read: the query, the reply, and the number of own writes that had been made before.
 pub record Read : Type 0 where
   pub query : Query
   pub reply : Reply
@@ -35,11 +35,11 @@ pub record Read : Type 0 where
 abbrev pub read_of : LoggedRead → Read
 read_of r = record { query = query_of r.query; reply = reply_of r.answer; own = r.own }
 
--- The read that the mapping of number n has no violation, by an attempt that had made so many own writes.
+-- The read that the mapping of number n has no violation, by an attempt that had made `own` writes.
 abbrev pub finds_none : ℕ → ℕ → Read
 finds_none n own = record { query = Violation n; reply = Nothing; own = own }
 
--- The same of k mappings, from number n on.
+-- The reads that the k mappings from number n on have no violation, by an attempt that had made `own` writes.
 abbrev pub passing : ℕ → ℕ → ℕ → List Read
 passing n zero own = []
 passing n (suc k) own = finds_none n own ∷ passing (suc n) k own
@@ -49,12 +49,12 @@ abbrev pub reads_of : Logged → List Read
 reads_of (Asked r) = read_of r ∷ []
 reads_of (Passed passage) = passing passage.start (passage.end - passage.start) passage.own
 
--- Those of a log, in order.
+-- The reads of a log, in order.
 abbrev pub reads_in : List Logged → List Read
 reads_in [] = []
 reads_in (e ∷ es) = reads_of e ++ reads_in es
 
--- How many own writes had been made before the reads of an entry.
+-- The number of own writes that had been made before the reads of an entry.
 abbrev pub own_of : Logged → ℕ
 own_of (Asked r) = r.own
 own_of (Passed passage) = passage.own

@@ -1,4 +1,4 @@
--- Which reads mention a relation.
+-- The reads that mention a relation.
 use Rattle.std.specs.Prelude.{ℕ, Bool, List}
 use Rattle.def_chase.specs.Mappings.{Rule}
 use Rattle.def_chase.specs.Mentions.{mentions}

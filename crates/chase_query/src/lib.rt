@@ -1,8 +1,8 @@
 //! The queries that an update asks of the repository, their answers, and the log of the reads that it has made.
 //!
-//! What a `Query` and an `Reply` mean are the queries and replies of `def_chase`, by `query_of` and `reply_of` of
-//! `specs/Meanings.antt`. Which answers are of a query's kind is
-//! said in `specs/Kinds.antt`; the value of a query is always of its kind.
+//! A `Query` and a `Reply` stand for the queries and replies of `def_chase`, by `query_of` and `reply_of` of
+//! `specs/Meanings.antt`. `specs/Kinds.antt` says which answers are of a query's kind; the value of a query is always of its
+//! kind.
 #![tactic(auto)]
 
 mod laws;

@@ -1,4 +1,4 @@
-//! What an attempt has read, in order.
+//! The reads of an attempt, in order.
 ghost use Rattle.std.specs.Prelude.{◌≡◌, ◌+◌, ◌-◌, length, IfOk};
 ghost use Rattle.std.specs.List.{list_any};
 ghost use Rattle.base_types.specs.Contents.{rules_in};
@@ -10,7 +10,7 @@ use crate::replies::Reply;
 use base_types::{List, MappingList, Memory, TryCopy};
 use std::alloc::Global;
 
-/// A logged read: the query, its answer, and how many writes the attempt had made before it.
+/// A logged read: the query, its answer, and the number of writes that the attempt had made before it.
 #[derive(Debug, Drop)]
 pub struct LoggedRead {
     pub query: Query,
@@ -18,8 +18,8 @@ pub struct LoggedRead {
     pub own: u64,
 }
 
-/// Mappings that a look passed: those from number `start` on, up to the last before `end`, were asked for their first
-/// violation one after the other and had none, by an attempt that had made `own` writes.
+/// Mappings that a look passed: the mappings from number `start` up to, but without, `end` were asked for their first violation
+/// one after the other and had none, by an attempt that had made `own` writes.
 #[derive(Clone, Copy, Debug)]
 pub struct Passage {
     pub start: u16,
@@ -54,7 +54,7 @@ impl TryCopy for LoggedRead {
 }
 
 impl Logged {
-    /// How many writes the attempt had made before.
+    /// The number of writes that the attempt had made before the entry.
     pub fn own(&self) -> u64
         ensures own { result ≡ own_of self.now }
     {
@@ -64,8 +64,8 @@ impl Logged {
         }
     }
 
-    /// How many reads there are up to its last, where so many come before it. It is refused where that is more than a `u64`
-    /// holds, which is more than any memory does.
+    /// The number of reads up to the last one of the entry, if `before` reads come before it. It is refused if the number does
+    /// not fit a `u64`, which is more than any memory holds.
     pub fn count_on(&self, before: u64) -> Result<u64, Memory>
         ensures counted { IfOk result (λ all. all ≡ before + length (reads_of self.now)) }
     {
@@ -75,7 +75,7 @@ impl Logged {
         }
     }
 
-    // How many reads it stands for.
+    // The number of reads that it stands for.
     fn count(&self) -> u64
         ensures count { result ≡ length (reads_of self.now) }
     {
@@ -98,7 +98,7 @@ impl Logged {
 }
 
 impl Passage {
-    // How many mappings there are.
+    // The number of mappings.
     fn count(self) -> u64
         ensures count { result ≡ length (passing self.start (self.end - self.start) self.own) }
     {
@@ -119,7 +119,7 @@ impl Passage {
     }
 }
 
-/// The read that the mapping of this number has no violation, by an attempt that had made so many writes.
+/// The read that the mapping of this number has no violation, by an attempt that had made `own` writes.
 pub fn finds_none(number: u16, own: u64) -> LoggedRead
     ensures read { read_of result ≡ finds_none_def number own }
 {

@@ -6,18 +6,17 @@ ghost use Rattle.def_chase.specs.Mentions.{mentions as mentions_def};
 ghost use Rattle.base_types.specs.Meanings.{pattern_of, rule_of};
 ghost use Rattle.chase_query.specs.Meanings.{query_of};
 
-use base_types::{Atom, MappingList, Memory, TryCopy, Tuple};
+use base_types::{Atom, MappingList, Memory, OuterName, TryCopy, Tuple};
 use std::alloc::Global;
 
-/// A query: whether the tuple is there; which is the first violation of the mapping of this number; which tuples
-/// are more specific than the tuple; which tuples hold a null drawn by this update at this place, by whatever
-/// attempt.
+/// A query: is the tuple there; what is the first violation of the mapping of this number; which tuples are more specific than
+/// the tuple; which tuples hold a null of this name.
 #[derive(Debug, Drop)]
 pub enum Query {
     Present(Tuple),
     Violation(u16),
     Specific(Tuple),
-    Occurs(u32, u32),
+    Occurs(OuterName),
 }
 
 impl TryCopy for Query {
@@ -32,7 +31,7 @@ impl TryCopy for Query {
             Query::Present(tuple) => Ok(Query::Present(tuple.copy(alloc)?)),
             Query::Violation(mapping) => Ok(Query::Violation(*mapping)),
             Query::Specific(tuple) => Ok(Query::Specific(tuple.copy(alloc)?)),
-            Query::Occurs(update, place) => Ok(Query::Occurs(*update, *place)),
+            Query::Occurs(name) => Ok(Query::Occurs(*name)),
         }
     }
 }
@@ -47,7 +46,7 @@ pub fn mentions(query: &Query, mappings: &MappingList, relation: u16) -> bool
         Query::Present(tuple) => tuple.relation == relation,
         Query::Violation(number) => violation_mentions(*number, mappings, relation),
         Query::Specific(tuple) => tuple.relation == relation,
-        Query::Occurs(_, _) => true,
+        Query::Occurs(_) => true,
     }
 }
 

@@ -6,8 +6,7 @@ ghost use Rattle.chase_query.specs.Meanings.{reply_of};
 use base_types::{Memory, TryCopy, TupleList};
 use std::alloc::Global;
 
-/// The answer of a query: yes or no; the image of the first violation, or that there is none; the tuples asked
-/// for, in order.
+/// The answer of a query: yes or no; the image of the first violation, or that there is none; the tuples of the query, in order.
 #[derive(Debug, Drop)]
 pub enum Reply {
     Yes,

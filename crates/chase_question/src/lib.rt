@@ -1,4 +1,4 @@
-//! The questions that the chase asks at its frontiers, and which answers fit them.
+//! The questions that the chase asks at its frontiers, and the answers that fit them.
 #![tactic(auto)]
 
 pub mod named;

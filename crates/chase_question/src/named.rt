@@ -1,4 +1,4 @@
-//! Which tuples of a question an answer names by their outer forms.
+//! The tuples of a question that an answer names by their outer forms.
 ghost use Rattle.std.specs.Prelude.{◌≡◌, map, find, is_some, unwrap_or, IfOk};
 ghost use Rattle.std.specs.List.{list_any};
 ghost use Rattle.std.specs.Option.{option_map, option_copied};
@@ -10,8 +10,8 @@ use crate::outer_forms::is_outer_form;
 use base_types::{List, Memory, TryCopy, Tuple, TupleList};
 use std::alloc::Global;
 
-/// The candidate that an answer `Unify` names: the first one with the outer form, and None exactly where no candidate has it,
-/// which is where the answer does not fit.
+/// The candidate that an answer `Unify` names: the first one with the outer form. None exactly if no candidate has it, so that
+/// the answer does not fit.
 pub fn candidate<'a>(candidates: &'a TupleList, form: &Tuple) -> Option<&'a Tuple>
     ensures found { option_map fact_of (option_copied result) ≡
         find (λ s. same_fact (outer s) (fact_of form.now)) (map fact_of candidates.now.items) }
@@ -37,7 +37,7 @@ pub fn is_named(tuple: &Tuple, forms: &TupleList) -> bool
         .any(|form| is_outer_form(tuple, form))
 }
 
-/// Copies of those of the tuples whose outer forms are among the forms, in the order of the tuples.
+/// Copies of the tuples whose outer forms are among the forms, in the order of the tuples.
 pub fn named_tuples(
     alloc: Global,
     tuples: &TupleList,

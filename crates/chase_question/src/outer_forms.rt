@@ -1,4 +1,4 @@
-//! Whether a tuple is told by a given outer form.
+//! Whether a tuple has a given outer form.
 ghost use Rattle.std.specs.Prelude.{◌≡◌, ◌↔◌, map, IsTrue};
 ghost use Rattle.def_chase.specs.Values.{outer_datum, outer, same_datum, same_fact};
 ghost use Rattle.base_types.specs.Meanings.{datum_of, fact_of};
@@ -27,7 +27,7 @@ pub fn has_outer_form(tuples: &TupleList, form: &Tuple) -> bool
         .any(|tuple| is_outer_form(tuple, form))
 }
 
-// Whether there are as many values as forms, each with the outer form in its place.
+// Whether there are as many values as forms, and each value has the outer form at its place.
 fn are_outer_forms(values: &[Value], forms: &[Value]) -> bool
     ensures answer { IsTrue result ↔ (map (λ v. outer_datum (datum_of v)) values.now ≡
         map datum_of forms.now) }

@@ -1,4 +1,4 @@
-//! The questions at a frontier of the chase, and which answers fit them.
+//! The questions at a frontier of the chase, and the answers that fit them.
 ghost use Rattle.std.specs.Prelude.{◌≡◌, map, IfOk};
 ghost use Rattle.std.specs.List.{list_all};
 ghost use Rattle.base_types.specs.Meanings.{fact_of, choice_of};
@@ -10,9 +10,9 @@ use crate::outer_forms::has_outer_form;
 use base_types::{Choice, Memory, TryCopy, Tuple, TupleList};
 use std::alloc::Global;
 
-/// A question of the chase. A positive one has the violated mapping's number, the generated tuple, and the
-/// candidates: the tuples of the view that are more specific. A negative one has the violated mapping's number and
-/// the different tuples of its left side, of which at least one is to be deleted.
+/// A question of the chase. A positive one has the violated mapping's number, the generated tuple, and the candidates: the tuples
+/// of the view that are more specific. A negative one has the violated mapping's number and the different tuples of its left
+/// side, of which at least one must be deleted.
 #[derive(Debug, Drop)]
 pub enum Question {
     Positive {
@@ -52,8 +52,8 @@ impl TryCopy for Question {
     }
 }
 
-/// Whether the answer fits the question. A positive question is fitted by `Expand`, and by `Unify` with the outer form of a
-/// candidate; a negative one by `Delete` of at least one of its tuples, each by its outer form, a repeated one counting once.
+/// Whether the answer fits the question. `Expand` fits a positive question, as does `Unify` with the outer form of a candidate.
+/// `Delete` of at least one of its tuples, each named by its outer form, fits a negative one; a repeated tuple counts once.
 pub fn fits(question: &Question, choice: &Choice) -> bool
     ensures answer { result ≡ fits_inquiry (inquiry_of question.now) (choice_of choice.now) }
     ensures asked { (q : Asked) → inquiry_in q ≡ inquiry_of question.now →

@@ -10,12 +10,12 @@ pub record Bound : Type 0 where
   pub mapping : ℕ
   pub values : List Datum
 
--- Those of the repair whose tuple a question is about.
+-- The mapping and the values of the repair whose tuple the question is about.
 abbrev pub bound_at : Question → Option Bound
 bound_at (Positive r t cs) = Some record { mapping = r.mapping; values = r.binding }
 bound_at (Negative n ts) = None
 
--- Those of the repair in hand, if it is a forward one.
+-- The mapping and the values of the repair in hand, if it is a forward one.
 abbrev pub bound_in : Phase → Option Bound
 bound_in Start = None
 bound_in Look = None
@@ -23,7 +23,7 @@ bound_in (Generate r) = Some record { mapping = r.mapping; values = r.binding }
 bound_in (Asked q) = bound_at q
 bound_in (Ended o) = None
 
--- The unifier of the generated tuple and the candidate of this outer form; it moves nothing where there is no such question.
+-- The unifier of the generated tuple and the candidate of this outer form; it moves nothing if there is no such question.
 abbrev pub unifier_at : Question → Fact → Datum → Datum
 unifier_at (Positive r t cs) o = unifier t (candidate t cs o)
 unifier_at (Negative n ts) o = λ d. d

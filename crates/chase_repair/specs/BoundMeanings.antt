@@ -1,4 +1,4 @@
--- What a `Bound` of the program means.
+-- The meaning of a `Bound` of the program.
 use Rattle.std.specs.Prelude.{map}
 use Rattle.base_types.specs.Meanings.{datum_of}
 use Rattle.chase_repair.specs.Bound as meant

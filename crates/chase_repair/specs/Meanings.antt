@@ -1,4 +1,4 @@
--- What the types of this crate mean, in the terms of the steps of the chase.
+-- The meanings of the types of this crate, in the terms of the steps of the chase.
 use Rattle.std.specs.Prelude.{◌≡◌, Bool, true, false}
 use Rattle.chase_query.specs.Meanings.{query_of}
 use Rattle.chase_question.specs.Inquiries.{inquiry_of}
@@ -10,7 +10,7 @@ use Rattle.chase_repair.specs.declared.wants.Progress.{Progress}
 use Rattle.chase_repair.specs.declared.wants.Progress.TheVariants.{Asks, Ends}
 use Rattle.chase_repair.specs.declared.fresh.Fresh.{Fresh}
 
--- What a `RepairWant` says is wanted.
+-- The want that a `RepairWant` stands for.
 abbrev pub want_of : RepairWant → Wanted
 want_of (Query q) = WantsReply (query_of q.now)
 want_of (Question q) = WantsChoice (inquiry_of q.now)
@@ -22,7 +22,7 @@ abbrev pub asks_on : Progress → Bool
 asks_on Asks = true
 asks_on Ends = false
 
--- The attempt draws its next null where the fresh ones begin.
+-- The next null that the attempt draws is the first of the fresh ones.
 pub record DrawsFrom (P : Attempt) (f : Fresh) : Type 0 where
   pub update : P.number ≡ f.update
   pub attempt : P.attempt ≡ f.attempt

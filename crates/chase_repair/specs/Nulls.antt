@@ -11,7 +11,7 @@ use Rattle.chase_repair.specs.declared.fresh.Fresh.{Fresh}
 abbrev pub with_null : List NullName → NullName → List NullName
 with_null ns n = if list_any (same_null n) ns then ns else ns ++ n ∷ []
 
--- The null that the value is, if it is one, is added at the end, unless it is there.
+-- The value is added at the end if it is a null that is not there.
 abbrev pub with_null_of : List NullName → Datum → List NullName
 with_null_of ns (Number i) = ns
 with_null_of ns (Text w) = ns
@@ -21,14 +21,15 @@ with_null_of ns (Unknown n) = with_null ns n
 abbrev pub moves : (Datum → Datum) → NullName → Bool
 moves f n = not (same_datum (f (Unknown n)) (Unknown n))
 
--- Those of the nulls that a substitution by these images moves.
+-- The nulls among ns that a substitution by these images moves.
 abbrev pub moved_among : List (NullName × Datum) → List NullName → List NullName
 moved_among images ns = filter (moves (moved_by (images_of images))) ns
 
--- The next n nulls that are drawn from there.
+-- The next n nulls that are drawn.
 abbrev pub drawn_from : Fresh → ℕ → List Datum
 drawn_from f n = map (λ k. Unknown record { update = f.update; attempt = f.attempt; place = f.drawn + k }) (range_with_len 1 n)
 
--- The values of a mapping's variables in its repair by insertions: those on the left by the image, and fresh nulls.
+-- The values of a mapping's variables in its repair by insertions: the variables on the left by the image, the existential ones
+-- fresh nulls.
 abbrev pub values_in : Fresh → Rule → List Fact → List Datum
 values_in f m image = binding_of m image ++ drawn_from f m.existential

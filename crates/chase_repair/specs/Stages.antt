@@ -1,4 +1,4 @@
--- What the parts of a `Repair` stand for, and what is true of them.
+-- The meanings of the parts of a `Repair`, and what is true of them.
 use Rattle.std.specs.Prelude.{◌≡◌, ℕ, true, false, List, [], ◌∷◌, map}
 use Rattle.std.specs.List.{list_all, flat_map}
 use Rattle.def_chase.specs.Values.{NullName, Datum, Fact}
@@ -38,7 +38,7 @@ gathering_of g =
       found = flat_map (λ l. map fact_of l.items) g.found.items;
     }
 
--- It has kept these tuples, and asks for the next null.
+-- The step g' is g after it has kept the tuples ts; it asks for the next null.
 abbrev pub HasKept : Gathering → List Fact → Gathering → Type 0
 HasKept g ts g' = gathering_of g' ≡ meant.asking_next (gathering_of g).later (gathering_of g) ts
 
@@ -52,7 +52,7 @@ abbrev pub querying : Repair → Query → meant.Repairing
 querying r (Present t) = meant.Checking r (fact_of t)
 querying r (Violation n) = meant.Repaired
 querying r (Specific t) = meant.Comparing r (fact_of t)
-querying r (Occurs u k) = meant.Repaired
+querying r (Occurs n) = meant.Repaired
 
 -- The repair at this question.
 abbrev pub waiting : Repair → Question → meant.Repairing
@@ -64,7 +64,7 @@ abbrev pub unifying : Repair → Question → meant.Gathering → meant.Repairin
 unifying r (Positive n t cs) g = meant.Unifying r (fact_of t) (map fact_of cs.items) g
 unifying r (Negative n ts) g = meant.Repaired
 
--- Where the repair stands.
+-- The state of the repair.
 abbrev pub repairing_of : Generation → Stage → meant.Repairing
 repairing_of g Generating = meant.Generating (repair_of g)
 repairing_of g (Querying q) = querying (repair_of g) q
@@ -72,21 +72,21 @@ repairing_of g (Waiting q) = waiting (repair_of g) q.value
 repairing_of g (Unifying q u) = unifying (repair_of g) q.value (gathering_of u.value)
 repairing_of g Repaired = meant.Repaired
 
--- The repair stands where it stood.
+-- The state of the repair is unchanged.
 abbrev pub SameRepair : Generation → Stage → Generation → Stage → Type 0
 SameRepair g s g' s' = repairing_of g' s' ≡ repairing_of g s
 
--- The end of a generation's step, by these more specific tuples, after these own writes.
+-- The end of a generation's step, given the candidates, which are more specific tuples, and the own writes before and after.
 abbrev pub HasCompared : List Rule → List Fact → Listed Write → Generation → Fact → Listed Write → meant.Repairing → Type 0
 HasCompared ms candidates own g t own' s' =
     stand ms false (changes_of own') s' ≡ settled (changes_of own) (Generate (repair_of g)) (compared ms (repair_of g) t candidates)
 
--- A generation asks whether its tuple is present, or for more specific ones.
+-- The query is one that a generation asks: whether its tuple is present, or for more specific tuples.
 abbrev pub IsOfGeneration : Query → Type 0
 IsOfGeneration (Present t) = Unit {0}
 IsOfGeneration (Violation n) = ⊥
 IsOfGeneration (Specific t) = Unit {0}
-IsOfGeneration (Occurs u k) = ⊥
+IsOfGeneration (Occurs n) = ⊥
 
 -- A positive question is of the mapping in hand, and its candidates are more specific than its tuple.
 pub record IsOfMapping (n m : ℕ) (t : Tuple) (cs : List Tuple) : Type 0 where

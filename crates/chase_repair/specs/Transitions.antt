@@ -1,4 +1,5 @@
--- The transitions of a repair: the look that makes it, a step that begins, the answer to the query that the step asks, and the step of the answer to a question.
+-- The transitions of a repair: the look that makes it, the beginning of a step, the answer to a step's query, and the step of the
+-- answer to a question.
 use Rattle.std.specs.Prelude.{◌≡◌, ℕ, List, Option, Some}
 use Rattle.def_chase.specs.Values.{Fact}
 use Rattle.def_chase.specs.Mappings.{Rule}
@@ -28,21 +29,21 @@ IsForward fresh n m image s = (P : Attempt) → DrawsFrom P fresh → repair P F
 abbrev pub IsBackward : ℕ → List Fact → Repairing → Listed Write → Type 0
 IsBackward n image s writes = makes (changes_of writes) (phase_of s) ≡ negative n (in_order image)
 
--- The step that is next has begun.
+-- The next step has begun.
 abbrev pub HasBegun : List Rule → Repairing → Repairing → Type 0
 HasBegun ms s s' = (P : Attempt) (c : Option Choice) → tree_in ms s' ≡ step_in ms P c (phase_of s)
 
--- By the answer to its query the step asks on or has ended. It has come to these own writes, and to s'.
+-- With the answer to its query the step asks a further query or ends. The own writes are then own', and the state is s'.
 abbrev pub HasAnswered : List Rule → Reply → Listed Write → Repairing → Listed Write → Repairing → Progress → Type 0
 HasAnswered ms a own s own' s' progress =
     stand ms (asks_on progress) (changes_of own') s' ≡ settled (changes_of own) (phase_of s) (branch (tree_in ms s) (reply_of a))
 
--- By the answer to the question its step asks on or has ended. It has come to these own writes, and to s'.
+-- With the answer to the question its step asks a query or ends. The own writes are then own', and the state is s'.
 abbrev pub HasChosen : List Rule → ChoiceOfProgram → Listed Write → Repairing → Listed Write → Repairing → Progress → Type 0
 HasChosen ms c own s own' s' progress =
     (P : Attempt)
     → stand ms (asks_on progress) (changes_of own') s' ≡ settled (changes_of own) (phase_of s) (step_in ms P (Some (choice_of c)) (phase_of s))
 
--- It asks where the step goes on.
+-- The repair asks a query exactly if the step goes on.
 abbrev pub AsksAs : Repairing → Progress → Type 0
 AsksAs s progress = is_asking s ≡ asks_on progress

@@ -1,4 +1,4 @@
-//! How a step goes on by the answer to its query.
+//! A step goes on with the answer to its query.
 ghost use Rattle.std.specs.Prelude.{◌≡◌, IfOk, OnErr};
 ghost use Rattle.chase_query.specs.Meanings.{reply_of};
 ghost use Rattle.chase_repair.specs.Stands.{wanted, TakesReply};
@@ -16,8 +16,8 @@ use base_types::{Memory, WriteList};
 use chase_query::{Query, Reply};
 use std::alloc::Global;
 
-/// Goes on by the answer to the query of this stage. A step that ends puts its writes behind the own ones. If it is refused, the
-/// repair stands where it stood, and the own writes are unchanged.
+/// Goes on with the answer to the query of this stage. A step that ends adds its writes to the end of the own ones. If it is
+/// refused, the repair and the own writes are unchanged.
 pub(crate) fn answered(
     alloc: Global,
     generation: &mut Generation,

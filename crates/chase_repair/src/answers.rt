@@ -1,4 +1,4 @@
-//! What answers to queries tell a step.
+//! The parts of answers to queries that a step needs.
 ghost use Rattle.std.specs.Prelude.{◌≡◌, map, IfOk};
 ghost use Rattle.base_types.specs.Meanings.{fact_of};
 ghost use Rattle.chase_query.specs.Meanings.{reply_of};
@@ -15,7 +15,7 @@ pub(crate) fn is_yes(answer: &Reply) -> bool
     matches!(answer, Reply::Yes)
 }
 
-/// The tuples of an answer to `Specific` or `Occurs`; none where it is another.
+/// The tuples of an answer to `Specific` or `Occurs`; none for any other answer.
 pub(crate) fn tuples_of(answer: &Reply) -> &[Tuple]
     ensures tuples { map fact_of result.now ≡ tuples_of_def (reply_of answer.now) }
 {

@@ -1,10 +1,10 @@
-//! Values behind a pointer.
+//! Values on the heap.
 ghost use Rattle.std.specs.Prelude.{◌≡◌, IfOk};
 
 use base_types::Memory;
 use std::alloc::Global;
 
-/// The value behind a pointer, so that what holds it is small where it moves.
+/// A pointer to the value, so that the type that holds it is small and cheap to move.
 pub fn boxed<T: Drop>(alloc: Global, value: T) -> Result<Box<T>, Memory>
     ensures same { IfOk result (λ held. held.value ≡ value) }
 {

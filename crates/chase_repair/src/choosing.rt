@@ -25,8 +25,8 @@ use chase_question::{Question, named_tuples};
 use std::alloc::Global;
 use std::mem;
 
-/// Makes the step of the answer, which fits the question of this stage, up to its first query or its end. A step that ends puts
-/// its writes behind the own ones. If it is refused, the repair stands where it stood, and the own writes are unchanged.
+/// Makes the step of the answer, which fits the question of this stage, up to its first query or its end. A step that ends adds
+/// its writes to the end of the own ones. If it is refused, the repair and the own writes are unchanged.
 pub(crate) fn chosen(
     alloc: Global,
     generation: &mut Generation,
@@ -92,7 +92,7 @@ fn first_asked(alloc: Global, sub: Sub, nulls: Vec<Null>) -> Gathering
     let null = later.remove(0);
     Gathering {
         sub,
-        query: Query::Occurs(null.update, null.place),
+        query: Query::Occurs(null.outer_name()),
         later,
         found: List::new(alloc),
     }
@@ -109,7 +109,7 @@ fn unifying(stage: Stage, gathering: Box<Gathering>) -> Stage
     }
 }
 
-// Deletes those of the tuples whose outer forms are given, by writes behind the own ones. If it is refused, the own writes are
+// Deletes the tuples whose outer forms are given, by writes at the end of the own ones. If it is refused, the own writes are
 // unchanged.
 fn delete(
     alloc: Global,

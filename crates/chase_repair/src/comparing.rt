@@ -1,4 +1,4 @@
-//! The step of a right atom once it is known which tuples are more specific than the generated one.
+//! The step of a right atom, once the tuples that are more specific than the generated one are known.
 ghost use Rattle.std.specs.Prelude.{◌≡◌, true, false, map, IfOk, OnErr};
 ghost use Rattle.std.specs.List.{list_all};
 ghost use Rattle.def_chase.specs.Specific.{more_specific};
@@ -16,8 +16,9 @@ use chase_question::Question;
 use std::alloc::Global;
 use std::mem;
 
-/// The stage at the end of the step, by the tuples that are more specific than the generated one: with none of them the generated
-/// tuple is taken out of where it is and inserted, else a person is asked. If it is refused, everything is unchanged.
+/// The stage at the end of the step, given the candidates, which are more specific than the generated tuple. If there are none,
+/// the generated tuple is moved out of `tuple` and inserted; otherwise a person is asked. If it is refused, everything is
+/// unchanged.
 pub(crate) fn compared(
     alloc: Global,
     generation: &mut Generation,
@@ -52,7 +53,7 @@ pub(crate) fn compared(
     }
 }
 
-/// The tuple, taken out of a place that is then written anew.
+/// The tuple, moved out of a place that the caller writes again.
 pub(crate) fn taken(tuple: &mut Tuple) -> Tuple
     ensures tuple { result ≡ tuple.old }
 {

@@ -43,7 +43,7 @@ impl TryCopy for Gathering {
     }
 }
 
-/// A copy of the stage, which stands for the same whatever repair is in hand.
+/// A copy of the stage, which means the same as the stage for any repair in hand.
 pub(crate) fn copy_stage(alloc: Global, stage: &Stage) -> Result<Stage, Memory>
     ensures same { IfOk result (λ copy. (g : GenerationOfProgram) →
         repairing_of g copy ≡ repairing_of g stage.now) }

@@ -1,4 +1,4 @@
-//! The values of a mapping's variables in a forward repair: those on the left by the image, and a fresh null for each
+//! The values of a mapping's variables in a forward repair: the variables on the left by the image, and a fresh null for each
 //! existential one.
 ghost use Rattle.std.specs.Prelude.{◌≡◌, ◌+◌, ◌<◌, ◌^◌, ◌++◌, pos, map, unwrap_or, IfOk, OnOk};
 ghost use Rattle.std.specs.List.{range_with_len};
@@ -13,7 +13,7 @@ use base_types::{List, Mapping, Memory, Null, TryCopy, TupleList, Value, ValueLi
 use chase_match::PartialMatch;
 use std::alloc::Global;
 
-/// From where an attempt draws its nulls: the numbers of the update and of the attempt, and how many nulls it has drawn.
+/// The source of an attempt's nulls: the numbers of the update and of the attempt, and the number of nulls drawn so far.
 #[derive(Clone, Copy, Debug)]
 pub struct Fresh {
     pub update: u32,
@@ -21,7 +21,7 @@ pub struct Fresh {
     pub drawn: u32,
 }
 
-/// How many existential variables the mapping has: one for each null that its repair draws.
+/// The number of the mapping's existential variables, which is the number of nulls that its repair draws.
 pub fn existential(mapping: &Mapping) -> usize
     ensures count { result ≡ (rule_of mapping.now).existential }
 {
@@ -64,7 +64,7 @@ fn universal_values(
     }
 }
 
-// The values of the first variables, as far as they are known.
+// The values of the first `count` variables; the number 0 for an unknown one.
 fn known_values<'a>(
     alloc: Global,
     partial: &PartialMatch<'a>,
@@ -81,7 +81,7 @@ fn known_values<'a>(
     Ok(values)
 }
 
-// The value of the variable; the number 0 where it is not known.
+// The value of the variable; the number 0 if it is not known.
 fn known_value<'a>(
     alloc: Global,
     partial: &PartialMatch<'a>,
@@ -96,7 +96,7 @@ fn known_value<'a>(
     }
 }
 
-// Adds so many fresh nulls to the values.
+// Adds `count` fresh nulls to the values.
 fn draw(values: &mut ValueList, fresh: Fresh, count: usize) -> Result<(), Memory>
     requires { fresh.drawn + count < 2 ^ 32 }
     ensures ok { OnOk result (data_of values.new ≡ data_of values.old ++ drawn_from fresh count) }

@@ -1,4 +1,4 @@
-//! The right atoms of a repair in hand: the tuple that is generated for one, and which one comes next.
+//! The right atoms of a repair in hand: the tuple that is generated for one, and the step to the next one.
 ghost use Rattle.std.specs.Prelude.{◌≡◌, false, map, slice_get, IfOk};
 ghost use Rattle.def_chase.specs.Mappings.{value_under, fact_under, listed as listed_def};
 ghost use Rattle.base_types.specs.Contents.{data_of};
@@ -43,7 +43,7 @@ pub(crate) fn go_on(generation: &mut Generation, mappings: &Mappings<'_>) -> Sta
     }
 }
 
-// The right atoms of the mapping of this number; none where there is no such mapping.
+// The right atoms of the mapping of this number; none if there is no such mapping.
 fn right_atoms<'a>(mappings: &Mappings<'a>, number: u16) -> &'a [Atom]
     ensures atoms { map pattern_of result.now ≡ right_atoms_def (slice_get mappings.now number) }
 {
@@ -53,7 +53,7 @@ fn right_atoms<'a>(mappings: &Mappings<'a>, number: u16) -> &'a [Atom]
     }
 }
 
-/// The tuple that the atom is under the values.
+/// The tuple of the atom under the values.
 pub(crate) fn tuple_under(alloc: Global, binding: &ValueList, atom: &Atom) -> Result<Tuple, Memory>
     ensures value { IfOk result (λ tuple.
         fact_of tuple ≡ fact_under (listed_def (data_of binding.now)) (pattern_of atom.now)) }

@@ -1,4 +1,4 @@
-//! What a forward repair in hand tells of itself: its mapping with the values of its variables, the image of its
+//! The parts of a forward repair in hand that others see: its mapping with the values of its variables, the image of its
 //! violation, and the unifier of an answer to its question.
 ghost use Rattle.std.specs.Prelude.{◌≡◌, map, IfOk};
 ghost use Rattle.std.specs.Option.{option_map};
@@ -28,7 +28,7 @@ pub struct Bound<'a> {
 }
 
 impl Repair {
-    /// The mapping and the values of its variables; None exactly where no forward repair is in hand.
+    /// The mapping and the values of its variables; None exactly if no forward repair is in hand.
     pub fn bound(&self) -> Option<Bound<'_>>
         ensures bound { option_map bound_of result ≡ bound_in (phase_of self.now) }
     {
@@ -44,7 +44,7 @@ impl Repair {
         }
     }
 
-    /// The unifier of the generated tuple in question and the candidate of this form, which fits the question.
+    /// The unifier of the generated tuple in question and the candidate with this outer form. The form must fit the question.
     pub fn unifier_with(&self, alloc: Global, form: &Tuple) -> Result<Sub, Memory>
         requires { TakesChoice (wanted self.now) (Unify (fact_of form.now)) }
         ensures unifier { IfOk result
@@ -54,7 +54,7 @@ impl Repair {
     }
 }
 
-// The unifier of the generated tuple in question at this stage and the candidate of this form.
+// The unifier of the generated tuple in question at this stage and the candidate with this outer form.
 fn unifier_at(
     alloc: Global,
     generation: &Generation,

@@ -1,12 +1,12 @@
 //! The repair of one violation of a mapping: the rows Generate and Asked of the chase's steps, as a value that asks
 //! queries and questions and takes their answers.
 //!
-//! Contracts see a `Repair` as where it stands (`Repairing` of `specs/Repairs.antt`): `phase_of` is its phase, `tree_in`
-//! what the step under way still asks and does. Each call that goes on tells by `stand` what the step has come to, and
-//! that this is what the definition of the step says (`settled`). `ms` is `mappings.now`. A step that
-//! ends puts its writes behind those that the attempt has made, which the call is handed as `own`.
+//! Contracts see the state of a `Repair` as a `Repairing` of `specs/Repairs.antt`: `phase_of` is its phase, and `tree_in` is what
+//! the step under way still asks and does. Each call that goes on says by `stand` what the step has come to, and that the
+//! definition of the step gives the same (`settled`). `ms` is `mappings.now`. A step that ends adds its writes to the end of
+//! those that the attempt has made, which the caller hands in as `own`.
 //!
-//! `Err` is want of memory, of which no clause can say when it comes; everything is then unchanged.
+//! On `Err`, everything is unchanged.
 #![tactic(auto)]
 
 mod answering;

@@ -13,7 +13,8 @@ use base_types::{List, Memory, TupleList, WriteList};
 use chase_question::Question;
 use std::alloc::Global;
 
-/// A single tuple is deleted; of several a person is asked which, in a question that names the mapping's number.
+/// A single tuple is deleted. If there are several, a person is asked which to delete, in a question that has the mapping's
+/// number.
 pub(crate) fn look_back(
     alloc: Global,
     number: u16,

@@ -1,4 +1,4 @@
-//! The nulls of tuples, and those that a substitution moves.
+//! The nulls of tuples, and the nulls that a substitution moves.
 ghost use Rattle.std.specs.Prelude.{◌≡◌, map, IfOk, OnOk};
 ghost use Rattle.std.specs.List.{list_any};
 ghost use Rattle.base_types.specs.Meanings.{null_of, datum_of, fact_of};
@@ -34,7 +34,7 @@ pub(crate) fn moved_nulls(alloc: Global, sub: &Sub, tuple: &Tuple) -> Result<Lis
     moved_among(alloc, sub, sorted.as_slice())
 }
 
-// Adds the null that the value is, if it is one that is not there.
+// Adds the value to the list, if it is a null that is not there yet.
 fn add_null_of(nulls: &mut List<Null>, value: &Value) -> Result<(), Memory>
     ensures ok { OnOk result (map null_of nulls.new.items ≡
         with_null_of (map null_of nulls.old.items) (datum_of value.now)) }
@@ -46,7 +46,7 @@ fn add_null_of(nulls: &mut List<Null>, value: &Value) -> Result<(), Memory>
     }
 }
 
-// Adds the null, if it is not there.
+// Adds the null, if it is not there yet.
 fn add_null(nulls: &mut List<Null>, null: Null) -> Result<(), Memory>
     ensures ok { OnOk result (map null_of nulls.new.items ≡
         with_null (map null_of nulls.old.items) (null_of null)) }
@@ -79,7 +79,7 @@ fn sorted(alloc: Global, nulls: &[Null]) -> Result<BTreeSet<Null>, Memory>
     }
 }
 
-// Those of the nulls that the substitution moves.
+// The nulls among these that the substitution moves.
 fn moved_among(alloc: Global, sub: &Sub, nulls: &[Null]) -> Result<List<Null>, Memory>
     ensures value { IfOk result (λ moved.
         map null_of moved.items ≡ moved_among_def sub.now (map null_of nulls.now)) }

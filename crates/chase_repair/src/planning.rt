@@ -14,7 +14,7 @@ use chase_question::candidate;
 use chase_unifier::unifier;
 use std::alloc::Global;
 
-/// The unifier of the tuple and the candidate of this form, and the nulls that it moves, in order.
+/// The unifier of the tuple and the candidate with this outer form, and the nulls that it moves, in order.
 pub(crate) fn plan(
     alloc: Global,
     tuple: &Tuple,
@@ -33,7 +33,7 @@ pub(crate) fn plan(
     Ok((sub, nulls.into_vec()))
 }
 
-// The candidate that the form names. As the steps of the chase define it, that is the tuple itself where none has the form.
+// The candidate with this outer form. If there is none, it is the tuple itself, as the steps of the chase define it.
 fn named_candidate<'a>(tuple: &'a Tuple, candidates: &'a TupleList, form: &Tuple) -> &'a Tuple
     ensures { fact_of result.now ≡ chosen_candidate (fact_of tuple.now)
         (facts_of candidates.now) (fact_of form.now) }

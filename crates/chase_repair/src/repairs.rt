@@ -24,8 +24,8 @@ use chase_query::{Query, Reply};
 use std::alloc::Global;
 use std::marker::Model;
 
-/// The repair of one violation, as a value. A forward repair generates the right atoms in turn; a backward one asks
-/// which tuples to delete. Contracts see where it stands.
+/// The repair of one violation, as a value. A forward repair generates the right atoms in turn; a backward one asks which tuples
+/// to delete. Contracts see its state as a `Repairing`.
 #[derive(Debug, Drop)]
 pub struct Repair {
     pub(crate) generation: Generation,
@@ -45,9 +45,9 @@ impl Model for Repair {
 }
 
 impl Repair {
-    /// The repair of a violation by insertions: the variables on the left have their values at the image, each existential one a
-    /// fresh null, and the right atoms are to be generated in turn. `number` is the mapping's. A look of such an attempt makes
-    /// this, and draws as many nulls as the mapping has existential variables.
+    /// The repair of a violation by insertions: the variables on the left have their values at the image, each existential one is
+    /// a fresh null, and the right atoms will be generated in turn. `number` is the mapping's. A look of an attempt that draws
+    /// from `fresh` makes this repair, and draws one null for each existential variable of the mapping.
     pub fn forward(
         alloc: Global,
         number: u16,
@@ -71,7 +71,7 @@ impl Repair {
     }
 
     /// The repair of a violation by deletions, and the writes of the look that makes it: a single tuple of the image is deleted
-    /// at once, of several a person is asked, whose question names the mapping's number.
+    /// at once. If there are several, a person is asked which to delete, in a question that has the mapping's number.
     pub fn backward(
         alloc: Global,
         number: u16,
@@ -89,7 +89,7 @@ impl Repair {
         Ok((Repair { generation, stage }, writes))
     }
 
-    /// Begins the step that is next. It then asks. If it is refused, the repair is unchanged.
+    /// Begins the next step, which then asks a query. If it is refused, the repair is unchanged.
     pub fn begin(&mut self, alloc: Global, mappings: &Mappings<'_>) -> Result<(), Memory>
         requires { wanted self.old ≡ WantsStep }
         ensures step { OnOk result (HasBegun mappings.now self.old self.new) }
@@ -102,7 +102,7 @@ impl Repair {
         Ok(())
     }
 
-    /// Takes the answer to the query that is asked, and goes on by it. A step that ends puts its writes behind the own ones. If
+    /// Takes the answer to the step's query, and goes on with it. A step that ends adds its writes to the end of the own ones. If
     /// it is refused, the repair and the own writes are unchanged.
     pub fn answer(
         &mut self,
@@ -128,8 +128,8 @@ impl Repair {
         )
     }
 
-    /// Takes the answer to the question, which fits it, and makes the step of it up to its first query or its end. A step that
-    /// ends puts its writes behind the own ones. If it is refused, the repair and the own writes are unchanged.
+    /// Takes the answer to the question, which must fit it, and makes the step of the answer up to its first query or its end. A
+    /// step that ends adds its writes to the end of the own ones. If it is refused, the repair and the own writes are unchanged.
     pub fn choose(
         &mut self,
         alloc: Global,
@@ -154,7 +154,7 @@ impl Repair {
         )
     }
 
-    /// What is wanted next. A query is what the step under way asks first.
+    /// What the repair wants next. If that is a query, it is the first one that the step under way still asks.
     pub fn wants(&self) -> RepairWant<'_>
         ensures want { want_of result ≡ wanted self.now }
         ensures query { (ms : List Rule) →

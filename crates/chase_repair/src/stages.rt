@@ -1,4 +1,4 @@
-//! The parts of a repair: the values of its variables, and the stage at which it stands.
+//! The parts of a repair: the values of its variables, and its stage.
 use base_types::{List, Null, Sub, TupleList, ValueList};
 use chase_query::Query;
 use chase_question::Question;
@@ -12,8 +12,8 @@ pub(crate) struct Generation {
     pub(crate) atom: usize,
 }
 
-// The step of an answer `Unify`: the unifier, the query that is asked, the nulls that are asked for after it, and the
-// tuples found so far, answer by answer.
+// The step of an answer `Unify`: the unifier, the present query, the nulls to ask for after it, and the tuples found so far,
+// answer by answer.
 #[derive(Debug, Drop)]
 pub(crate) struct Gathering {
     pub(crate) sub: Sub,
@@ -22,8 +22,8 @@ pub(crate) struct Gathering {
     pub(crate) found: List<TupleList>,
 }
 
-// The stage of a repair: before the step of a right atom; within it, with this query; at a question; within the step of
-// an answer `Unify` to it; or at its end. What is rare and large is behind a pointer.
+// The stage of a repair: before the step of a right atom; within it, with this query; at a question; within the step of an answer
+// `Unify` to the question; or at its end. Large parts that are rare are held by pointers.
 #[derive(Debug, Drop)]
 pub(crate) enum Stage {
     Generating,

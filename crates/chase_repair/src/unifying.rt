@@ -1,4 +1,4 @@
-//! The step of an answer `Unify`: the tuples that hold the nulls which move, and their rewriting by the unifier.
+//! The step of an answer `Unify`: it finds the tuples that hold the moved nulls, and rewrites them by the unifier.
 ghost use Rattle.std.specs.Prelude.{◌≡◌, ◌<◌, ◌++◌, false, length, map, IfOk, OnOk, OnErr};
 ghost use Rattle.base_types.specs.Contents.{changes_of, facts_of};
 ghost use Rattle.base_types.specs.Meanings.{fact_of};
@@ -20,7 +20,7 @@ use chase_unifier::apply_row;
 use std::alloc::Global;
 use std::collections::BTreeSet;
 
-/// Keeps the tuples that were found, and asks for the next null. If it is refused, the step is where it was.
+/// Keeps the tuples that were found, and asks for the next null. If it is refused, the step is unchanged.
 pub(crate) fn ask_next(
     alloc: Global,
     gathering: &mut Gathering,
@@ -32,11 +32,11 @@ pub(crate) fn ask_next(
 {
     gathering.found.push(copies(alloc, tuples)?)?;
     let null = gathering.later.remove(0);
-    gathering.query = Query::Occurs(null.update, null.place);
+    gathering.query = Query::Occurs(null.outer_name());
     Ok(())
 }
 
-/// The tuples found in the step, with the last ones, in order.
+/// The tuples found in the step, together with the last ones, in order.
 pub(crate) fn all_found(
     alloc: Global,
     gathering: &Gathering,
@@ -53,7 +53,7 @@ pub(crate) fn all_found(
     listed(alloc, set)
 }
 
-/// The end of the step: the unifier goes through the tuples, by writes behind the own ones, and through the values of the repair
+/// The end of the step: applies the unifier to the tuples, by writes at the end of the own ones, and to the values of the repair
 /// in hand. If it is refused, the repair in hand and the own writes are unchanged.
 pub(crate) fn unify(
     alloc: Global,

@@ -1,8 +1,8 @@
-//! What a repair wants next, and what a step of it has come to.
+//! What a repair wants next, and the progress of a step.
 use chase_query::Query;
 use chase_question::Question;
 
-/// What a repair wants next: the reply to a query, the answer to a question, the next step, or nothing any more.
+/// What a repair wants next: the reply to a query, the answer to a question, the next step, or nothing.
 #[derive(Clone, Copy)]
 pub enum RepairWant<'a> {
     Query(&'a Query),
@@ -11,7 +11,7 @@ pub enum RepairWant<'a> {
     Finished,
 }
 
-/// What a step has come to: it asks a query, or it has ended.
+/// The progress of a step: it asks a query, or it has ended.
 #[derive(Clone, Copy, Debug)]
 pub enum Progress {
     Asks,

@@ -1,4 +1,4 @@
-//! Writes that are put behind those that an attempt has made.
+//! Writes that are added to the end of those that an attempt has made.
 ghost use Rattle.std.specs.Prelude.{◌≡◌, [], ◌∷◌, ◌++◌, OnOk, OnErr, map};
 ghost use Rattle.def_chase.specs.Repository.{Insert};
 ghost use Rattle.base_types.specs.Meanings.{fact_of, change_of};

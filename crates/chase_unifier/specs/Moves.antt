@@ -1,10 +1,10 @@
--- Functions on nulls that are made null by null.
+-- Functions on nulls, made null by null.
 use Rattle.std.specs.Prelude.{List, Option, Some, None, if◌then◌else◌}
 use Rattle.std.specs.List.{list_any}
 use Rattle.def_chase.specs.Values.{NullName, Datum, Number, Text, Unknown, same_datum}
 use Rattle.base_types.specs.Maps.{give_image}
 
--- The image d is given to the value, if it is a null.
+-- The function f with the image d for the value, if that is a null.
 abbrev pub give : (NullName → Option Datum) → Datum → Datum → NullName → Option Datum
 give f (Number i) d = f
 give f (Text w) d = f

@@ -1,4 +1,4 @@
-//! Functions on nulls, applied to tuples and rows of values.
+//! Substitutions, applied to tuples and rows of values.
 ghost use Rattle.std.specs.Prelude.{◌≡◌, map, IfOk};
 ghost use Rattle.def_chase.specs.Values.{under};
 ghost use Rattle.base_types.specs.Meanings.{datum_of, fact_of};
@@ -29,7 +29,7 @@ pub fn apply_row(alloc: Global, sub: &Sub, row: &[Value]) -> Result<ValueList, M
     Ok(values)
 }
 
-// The image of the value where it is a null that has one, else the value.
+// The image of the value if it is a null that has one, otherwise the value.
 fn moved(alloc: Global, sub: &Sub, value: &Value) -> Result<Value, Memory>
     ensures value { IfOk result (λ moved. datum_of moved ≡
         moved_by (images_of sub.now) (datum_of value.now)) }

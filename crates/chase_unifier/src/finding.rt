@@ -11,9 +11,9 @@ use base_types::{Facts, List, Memory, TryCopy, Tuple, TupleList, Value};
 use chase_match::Walk;
 use std::alloc::Global;
 
-/// All tuples of the set that are more specific than the tuple, in order. Where the tuple has no null only it is looked up, since
-/// no other is more specific. Else, where it has a constant, only the tuples with that constant in its column are looked at, and
-/// else those of the relation.
+/// All tuples of the set that are more specific than the tuple, in order. If the tuple has no null, only the tuple itself is
+/// looked up, since no other is more specific. Otherwise, if it has a constant, only the tuples with that constant in its column
+/// are looked at. Otherwise, all tuples of the relation are.
 pub fn candidates<F: Facts>(alloc: Global, tuple: &Tuple, facts: &F) -> Result<TupleList, Memory>
     ensures value { IfOk result (λ found. map fact_of found.items ≡
         filter (λ s. more_specific s (fact_of tuple.now)) (F.tuples facts.now)) }

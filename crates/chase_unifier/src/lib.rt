@@ -1,11 +1,11 @@
 //! More specific tuples, and the unifier of a tuple and a more specific one: the laws of `def_chase` as calls over
 //! any set of tuples.
 //!
-//! A tuple is more specific than another where its values are those of the other with nulls replaced: each null by
-//! one value wherever it stands, and each constant by itself. What a function on nulls means on values is
-//! `moved_by (images_of sub)`, by `base_types`.
+//! A tuple is more specific than another if its values are those of the other with nulls replaced: each null by one value
+//! wherever it stands, and each constant by itself. The meaning of a substitution `sub` on values is `moved_by (images_of sub)`
+//! of `base_types`.
 //!
-//! `Err` is want of memory, of which no clause can say when it comes; no argument is changed by any call.
+//! No call changes its arguments.
 #![tactic(auto)]
 
 mod applying;

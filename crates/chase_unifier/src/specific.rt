@@ -1,4 +1,4 @@
-//! Which tuples are more specific than another, and the function that takes it to one.
+//! The test whether a tuple is more specific than another, and the substitution that takes the other to it.
 ghost use Rattle.std.specs.Prelude.{◌≡◌, IfOk, IfSome};
 ghost use Rattle.std.specs.List.{list_all};
 ghost use Rattle.std.specs.Option.{option_map};
@@ -23,8 +23,8 @@ pub fn is_more_specific(tuple: &Tuple, specific: &Tuple) -> bool
     is_function(tuple.values.as_slice(), specific.values.as_slice())
 }
 
-/// The function that takes the first tuple to the second; None exactly where the second is not more specific. Each null of the
-/// first is moved to what stands in its place.
+/// The substitution that takes the first tuple to the second; None exactly if the second is not more specific. The image of each
+/// null of the first is the value at its place in the second.
 pub fn specific_by(alloc: Global, tuple: &Tuple, specific: &Tuple) -> Result<Option<Sub>, Memory>
     ensures value { IfOk result (λ found. option_map (λ sub. moved_by (images_of sub)) found ≡
         taking (fact_of tuple.now) (fact_of specific.now)) }
@@ -42,7 +42,7 @@ pub fn specific_by(alloc: Global, tuple: &Tuple, specific: &Tuple) -> Result<Opt
     Ok(Some(sub))
 }
 
-/// What the second tuple has where the value first stands in the first; the value itself where it does not stand
+/// The value of the second tuple at the place where the value first stands in the first; the value itself if it does not stand
 /// there.
 pub(crate) fn image_of<'a>(tuple: &Tuple, specific: &'a Tuple, value: &'a Value) -> &'a Value
     ensures image { datum_of result.now ≡
@@ -79,7 +79,7 @@ fn is_kept(value: &Value, image: &Value) -> bool
     !is_constant(value) || value == image
 }
 
-// Whether the values and what stands in their places make up a function that keeps constants.
+// Whether the values and their images, place by place, make up a function that keeps constants.
 fn is_function(values: &[Value], images: &[Value]) -> bool
     ensures answer { result ≡ list_all (may_stand_def (pairs values.now images.now))
         (pairs values.now images.now) }

@@ -11,9 +11,9 @@ use crate::specific::image_of;
 use base_types::{Memory, Sub, Tuple, Value};
 use std::alloc::Global;
 
-/// The unifier of a tuple and a more specific one: each null of the first is followed from image to image, to where the walk
-/// stands still, or to the least value of the cycle that it comes into. It makes the two one tuple. Its time grows with the cube
-/// of the number of columns.
+/// The unifier of a tuple and a more specific one: each null of the first is followed from image to image, until the walk stands
+/// still or comes into a cycle; then the least value of the cycle is taken. It makes the two tuples equal. Its time grows with
+/// the cube of the number of columns.
 pub fn unifier(alloc: Global, tuple: &Tuple, specific: &Tuple) -> Result<Sub, Memory>
     requires { more_specific (fact_of specific.now) (fact_of tuple.now) ≡ true }
     ensures value { IfOk result (λ sub. moved_by (images_of sub) ≡
@@ -29,7 +29,8 @@ pub fn unifier(alloc: Global, tuple: &Tuple, specific: &Tuple) -> Result<Sub, Me
     Ok(sub)
 }
 
-// Where the walk from the value is after as many steps as there are columns: standing still, or on a cycle.
+// The value that the walk from the given one reaches after as many steps as there are columns. There it stands still, or is on a
+// cycle.
 fn far_along<'a>(tuple: &Tuple, specific: &'a Tuple, value: &'a Value) -> &'a Value
     ensures { datum_of result.now ≡ after (length tuple.now.values.items)
         (image_of (fact_of tuple.now) (fact_of specific.now)) (datum_of value.now) }
@@ -41,7 +42,7 @@ fn far_along<'a>(tuple: &Tuple, specific: &'a Tuple, value: &'a Value) -> &'a Va
     reached
 }
 
-// The least of the value and of as many as follow it as there are columns.
+// The least among the value and the values that the walk reaches from it in as many steps as there are columns.
 fn least_onwards<'a>(tuple: &Tuple, specific: &'a Tuple, value: &'a Value) -> &'a Value
     ensures { datum_of result.now ≡ least_after (length tuple.now.values.items)
         (image_of (fact_of tuple.now) (fact_of specific.now)) (datum_of value.now) }

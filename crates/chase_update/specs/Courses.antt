@@ -1,4 +1,5 @@
--- What a program is to its callers: an attempt, and the course of the step in hand, as a tree of queries that ends in the attempt after it.
+-- An attempt as its callers see it: the attempt itself, and the course of the step in hand, as a tree of queries that ends in the
+-- attempt after the step.
 use Rattle.std.specs.Prelude.{ℕ, suc, ◌+◌, nat_lt, Bool, ◌||◌, if◌then◌else◌, Option, Some, None, is_some, List}
 use Rattle.def_machine.specs.Trees.{Tree, Leaf, Node, then_tree}
 use Rattle.def_chase.specs.Mappings.{Rule}
@@ -7,12 +8,12 @@ use Rattle.def_steps.specs.Attempts.{Attempt, Phase, Ended, Spent, outcome_in}
 use Rattle.def_steps.specs.Steps.{Asking, moved}
 use Rattle.chase_update.specs.Rows.{Row, row_tree}
 
--- A step in hand: its budget, and where it stands.
+-- A step in hand: its budget, and its state.
 pub record Reading : Type 0 where
   pub budget : ℕ
   pub row : Row
 
--- An attempt between two steps; or as it was when the step in hand began, with that step.
+-- An attempt between two steps, or as it was when the step in hand began, together with that step.
 pub record State : Type 0 where
   pub attempt : Attempt
   pub reading : Option Reading
@@ -21,15 +22,15 @@ pub record State : Type 0 where
 abbrev pub between : Attempt → State
 between P = record { attempt = P; reading = None }
 
--- The queries that are asked, in turn by their answers, up to the attempt after the step.
+-- A tree of queries: each answer leads to the next query, up to the attempt after the step.
 abbrev pub Course : Type 0
 Course = Tree Query Reply Attempt
 
--- A step of P with this budget that asks and does this: it leads to the attempt after the step.
+-- The course of a step of P, with this budget, that asks and does this. It ends in the attempt after the step.
 abbrev pub coming_to : ℕ → Attempt → Asking → Course
 coming_to B P tree = then_tree tree (λ m. Leaf (moved B P m))
 
--- How it goes on by the answer to the first query.
+-- The rest of the course after the answer to the first query.
 abbrev pub by_reply : Course → Reply → Course
 by_reply (Leaf P) a = Leaf P
 by_reply (Node q k) a = k a
@@ -48,11 +49,12 @@ course_by ms P (Some r) = coming_to r.budget P (row_tree ms P r.row)
 abbrev pub course : List Rule → State → Course
 course ms s = course_by ms s.attempt s.reading
 
--- The phase that is left with so many steps made: spent, where that is all B, and the attempt has not ended.
+-- The phase after `steps` steps: spent if all B steps are made and the attempt has not ended, otherwise p.
 abbrev pub unless_spent : ℕ → ℕ → Phase → Phase
 unless_spent B steps p = if is_some (outcome_in p) || nat_lt steps B then p else Ended Spent
 
--- An attempt that its step has left in this phase and with these own writes, once the step is counted: with what it has drawn, and the answer that it took, if it took one.
+-- Attempt P, whose phase and own writes are those after a step, with the step counted: also the nulls that it drew, and the
+-- answer that it took, if any.
 abbrev pub counted : ℕ → Bool → ℕ → Attempt → Attempt
 counted B answers drawn P =
     record {

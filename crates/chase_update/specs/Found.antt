@@ -1,4 +1,4 @@
--- What the named nulls of an operation stand for, as far as they have been looked up.
+-- The values that the named nulls of an operation stand for, as far as they have been looked up.
 use Rattle.std.specs.Prelude.{Bool, List, [], ◌∷◌, Option, Some, None, find, unwrap_or, pos}
 use Rattle.std.specs.Option.{option_map}
 use Rattle.def_chase.specs.Values.{NullName, Datum, Number, Text, Unknown, Fact, same_datum}
@@ -18,7 +18,7 @@ found_in e = (e.0, standing_for e.0 e.1)
 abbrev pub is_found : NullName → NullName × Datum → Bool
 is_found n e = same_datum (Unknown e.0) (Unknown n)
 
--- What the named null stands for; the number 0 where it was not looked up.
+-- The value that the named null stands for; the number 0 if it was not looked up.
 abbrev pub stands_for : Found → NullName → Datum
 stands_for found n = unwrap_or (option_map (λ (e : NullName × Datum). e.1) (find (is_found n) found)) (Number (pos 0))
 
@@ -28,7 +28,7 @@ settled found (Number i) = Number i
 settled found (Text w) = Text w
 settled found (Unknown n) = stands_for found n
 
--- The first of the values that is a null of that outer name; the number 0 where none is.
+-- The first null with this update and place among the values; the number 0 if there is none.
 abbrev pub first_named : NullName → List Datum → Datum
 first_named n ds = unwrap_or (find (is_named n.update n.place) ds) (Number (pos 0))
 

@@ -1,4 +1,4 @@
--- What is wanted of a program and where it stands, in the terms of the steps of the chase.
+-- The wants and the points of an attempt, in the terms of the steps of the chase.
 use Rattle.std.specs.Prelude.{◌≡◌, Bool, [], Option, Some, None, if◌then◌else◌}
 use Rattle.def_chase.specs.Values.{Fact}
 use Rattle.def_chase.specs.Queries.{Query, Present, Violation, Specific, Occurs}
@@ -33,20 +33,20 @@ outcome_of Done = DoneMeant
 outcome_of Spent = SpentMeant
 outcome_of (Refused n) = RefusedMeant (null_of n)
 
--- What an `Outcome` tells.
+-- The end that an `Outcome` stands for.
 abbrev pub end_of : OutcomeOfProgram → EndTold
 end_of DoneOutcome = IsDone
 end_of SpentOutcome = IsSpent
 end_of (RefusedOutcome u k) = IsRefused u k
 
--- What a `Want` says is wanted.
+-- The wish that a `Want` stands for.
 abbrev pub want_of : Want → Wish
 want_of (Read q) = WishesReply (query_of q.now)
 want_of (Choice q) = WishesChoice (inquiry_of q.now)
 want_of (EndedWant o) = WishesNothing (end_of o)
 want_of NextStep = WishesStep
 
--- Where a `Reading` stands.
+-- The state of the step in hand that a `Reading` stands for.
 abbrev pub reading_of : Reading → rows.Row
 reading_of r = row_of r.row (query_of r.query)
 
@@ -58,7 +58,7 @@ phase_at (Repair r) = phase_of r
 phase_at (Ended e) = EndedMeant (outcome_of e)
 phase_at (ReadingPoint r) = begun_in (reading_of r)
 
--- Where the step in hand stands, if there is one.
+-- The state of the step in hand, if there is one.
 abbrev pub row_at : Point → Option rows.Row
 row_at Start = None
 row_at Look = None
@@ -70,7 +70,7 @@ row_at (ReadingPoint r) = Some (reading_of r)
 abbrev pub point_of : Point → Phase × Option rows.Row
 point_of p = (phase_at p, row_at p)
 
--- It is asked whether the operation's tuple is there.
+-- The attempt asks whether the operation's tuple is there.
 abbrev pub IsWriting : Point → Type 0
 IsWriting Start = ⊥
 IsWriting Look = ⊥
@@ -78,7 +78,7 @@ IsWriting (Repair r) = ⊥
 IsWriting (Ended e) = ⊥
 IsWriting (ReadingPoint r) = r.row ≡ Writing
 
--- The tuple that is asked about.
+-- The tuple of the query; an empty one if there is no query.
 abbrev pub tuple_at : Point → Fact
 tuple_at Start = record { relation = 0; values = [] }
 tuple_at Look = record { relation = 0; values = [] }
@@ -86,7 +86,7 @@ tuple_at (Repair r) = record { relation = 0; values = [] }
 tuple_at (Ended e) = record { relation = 0; values = [] }
 tuple_at (ReadingPoint r) = tuple_asked (query_of r.query)
 
--- The tuple of which a query asks whether it is there, if it asks that.
+-- The tuple of the query, if it asks whether a tuple is there.
 abbrev pub tuple_in : Query → Option Fact
 tuple_in (Present t) = Some t
 tuple_in (Violation n) = None
@@ -100,6 +100,7 @@ tuple_asked_at (Repair r) = None
 tuple_asked_at (Ended e) = None
 tuple_asked_at (ReadingPoint r) = tuple_in (query_of r.query)
 
--- The step of the operation has ended with its writes behind the own ones, once it is known whether its tuple is there. A look comes next.
+-- The step of the operation has ended, given whether its tuple is there: its writes stand at the end of the own ones, and a look
+-- comes next.
 abbrev pub HasWritten : Operation → Fact → Bool → Listed Write → Listed Write → Type 0
 HasWritten op t there own own' = Moved (changes_of own') LookMeant 0 ≡ settled (changes_of own) StartMeant (rows.written op t there)

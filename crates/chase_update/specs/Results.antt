@@ -1,4 +1,4 @@
--- What is told of a run, by what the serial machine tells.
+-- The result of a run as people see it, in the terms of the serial machine.
 use Rattle.std.specs.Prelude.{ℕ, List, map, Option}
 use Rattle.std.specs.Option.{option_map}
 use Rattle.def_machine.specs.Standings.{Lack, Missing, Misfit}
@@ -14,37 +14,37 @@ use Rattle.chase_update.specs.declared.results.Lack.TheVariants.{Missing as Miss
 use Rattle.chase_update.specs.declared.results.Stop.{Stop}
 use Rattle.chase_update.specs.declared.results.SessionResult.{SessionResult}
 
--- What people are told of an update's end. Its number is its place in the list, from 1.
+-- How an update ended, as people see it. Its number is its place in the list, from 1.
 pub record FinishTold : Type 0 where
   pub outcome : End
   pub steps : ℕ
   pub nulls : ℕ
 
--- What people are told of a stop: of its question what it tells.
+-- A stop as people see it, with its question as people see it.
 pub record StopTold : Type 0 where
   pub number : ℕ
   pub question : Inquiry
   pub lack : Lack
 
--- What people are told of a run.
+-- The result of a run as people see it.
 pub record ResultTold : Type 0 where
   pub finishes : List FinishTold
   pub stop : Option StopTold
   pub repository : List Fact
 
--- The part of a finish that is told.
+-- The part of a finish that people see.
 abbrev pub finish_in : Finished → FinishTold
 finish_in f = record { outcome = end_in f.outcome; steps = f.steps; nulls = f.nulls }
 
--- The part of a stop that is told.
+-- The part of a stop that people see.
 abbrev pub stop_in : Stopped → StopTold
 stop_in s = record { number = s.number; question = inquiry_in s.question; lack = s.lack }
 
--- The part of a result that is told.
+-- The part of a result that people see.
 abbrev pub result_in : SerialResult → ResultTold
 result_in r = record { finishes = map finish_in r.finishes; stop = option_map stop_in r.stop; repository = r.repository }
 
--- What a `Finish` tells.
+-- The finish that a `Finish` stands for.
 abbrev pub finish_of : Finish → FinishTold
 finish_of f = record { outcome = end_of f.outcome; steps = f.steps; nulls = f.nulls }
 
@@ -53,10 +53,10 @@ abbrev pub lack_of : LackOfProgram → Lack
 lack_of MissingLack = Missing
 lack_of MisfitLack = Misfit
 
--- What a `Stop` tells.
+-- The stop that a `Stop` stands for.
 abbrev pub stop_of : Stop → StopTold
 stop_of s = record { number = s.update; question = inquiry_of s.question; lack = lack_of s.lack }
 
--- What a `SessionResult` tells.
+-- The result that a `SessionResult` stands for.
 abbrev pub result_of : SessionResult → ResultTold
 result_of r = record { finishes = map finish_of r.finishes.items; stop = option_map stop_of r.stop; repository = map fact_of r.repository.items }

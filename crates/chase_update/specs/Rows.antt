@@ -1,4 +1,4 @@
--- Where a step in hand stands, as data, and how it goes on by the answer to the query that it asks.
+-- The state of a step in hand, as data, and how the step goes on with the answer to its query.
 use Rattle.std.specs.Prelude.{ℕ, suc, Bool, if◌then◌else◌, List, [], ◌∷◌, ◌++◌, map, drop, Option, Some, None}
 use Rattle.std.specs.List.{slice_get}
 use Rattle.def_machine.specs.Trees.{Node}
@@ -14,7 +14,10 @@ use Rattle.chase_repair.specs.Repairs.{Repairing, phase_of, tree_in}
 use Rattle.chase_repair.specs.Stands.{wanted, query_in, branch}
 use Rattle.chase_update.specs.Found.{Found, found_in, settled}
 
--- Where a step in hand stands. In the step of an operation: it looks up this named null, with those found before and those that come after; it asks whether the operation's tuple is there; it looks up the null to be replaced; or it looks up the null that replaces this value in these tuples. In a look: it asks whether the mapping of this number is in force; or for its first violation. Or it is within a step of a repair.
+-- The state of a step in hand. The step of an operation looks up a named null, with those found before and those that come after;
+-- asks whether the operation's tuple is there; looks up the null to be replaced; or looks up the null that replaces this value in
+-- these tuples. A look asks whether the mapping of this number is in force, or for its first violation. Or the step is one of a
+-- repair.
 pub data Row : Type 0 where
   Naming : Found → NullName → List NullName → Row
   Writing : Fact → Row
@@ -34,7 +37,7 @@ begun_in (Forcing n) = Look
 begun_in (Violating n) = Look
 begun_in (Mending r) = phase_of r
 
--- The query that is asked.
+-- The query that the step asks.
 abbrev pub asked : Row → Option Query
 asked (Naming found n ns) = Some (Occurs n.update n.place)
 asked (Writing t) = Some (Present t)
@@ -44,29 +47,29 @@ asked (Forcing n) = Some (Present (force n))
 asked (Violating n) = Some (Violation n)
 asked (Mending r) = query_in (wanted r)
 
--- An insertion writes the tuple where it is not there, a deletion where it is.
+-- An insertion writes the tuple if it is not there, a deletion if it is.
 abbrev pub written : Operation → Fact → Bool → Asking
 written (Adds t) u there = if there then makes [] Look else makes (Insert u ∷ []) Look
 written (Removes t) u there = if there then makes (Delete u ∷ []) Look else makes [] Look
 written (Replaces n v) u there = makes [] Look
 written (Enacts n) u there = makes [] Look
 
--- With all nulls found it is asked whether the operation's tuple is there.
+-- With all nulls found, the step asks whether the operation's tuple is there.
 abbrev pub present : Operation → Found → Asking
 present (Adds t) found = Node (Present (under (settled found) t)) (λ a. written (Adds t) (under (settled found) t) (is_yes a))
 present (Removes t) found = Node (Present (under (settled found) t)) (λ a. written (Removes t) (under (settled found) t) (is_yes a))
 present (Replaces n v) found = makes [] Look
 present (Enacts n) found = makes [] Look
 
--- These nulls are still to be looked up, with those found before.
+-- The step looks up these nulls, given those found before.
 abbrev pub named : Operation → Found → List NullName → Asking
 named op found ns = find_nulls ns (λ holders. present op (found ++ map found_in holders))
 
--- The step ends with the tuples rewritten, this value in place of that.
+-- The step ends with the tuples rewritten: `value` in place of d.
 abbrev pub rewriting : Datum → Datum → List Fact → Asking
 rewriting d value ts = makes (rewrite (replacing d value) ts) Look
 
--- The tuples that hold the named null are rewritten, once the null that replaces it is found.
+-- The step rewrites the tuples that hold the named null, once the null that replaces it is found.
 abbrev pub replaced : Operation → NullName → List Fact → Asking
 replaced (Adds t) n ts = makes [] Look
 replaced (Removes t) n ts = makes [] Look
@@ -77,17 +80,17 @@ replaced (Enacts m) n ts = makes [] Look
 abbrev pub look_on : List Rule → Attempt → ℕ → Asking
 look_on ms P n = look_from P (suc n) (drop (suc n) ms)
 
--- The look at the mapping of number n, if there is one, and what comes after it.
+-- The look at mapping n, if there is one, and then the rest.
 abbrev pub looking : Attempt → ℕ → Option Rule → Asking → Asking
 looking P n None rest = rest
 looking P n (Some m) rest = look_at P n m rest
 
--- The repair of the violation of mapping n, if there is one, and else what comes after it.
+-- The repair of the violation of mapping n, if there is one; otherwise the rest.
 abbrev pub repaired : Attempt → ℕ → Option Rule → Option (List Fact) → Asking → Asking
 repaired P n None image rest = rest
 repaired P n (Some m) image rest = repair_or P n m image rest
 
--- How the step goes on by the answer.
+-- How the step goes on with the answer.
 abbrev pub goes_on : List Rule → Attempt → Row → Reply → Asking
 goes_on ms P (Naming found n ns) a = unless_none n (tuples_of a) (named P.operation (found ++ (n, standing_for n (tuples_of a)) ∷ []) ns)
 goes_on ms P (Writing t) a = written P.operation t (is_yes a)

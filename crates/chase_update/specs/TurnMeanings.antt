@@ -1,4 +1,4 @@
--- What a step has come to, in the terms of the steps of the chase.
+-- The turns of a step, in the terms of the steps of the chase.
 use Rattle.std.specs.Prelude.{◌≡◌, ℕ, suc, ◌≤◌, List, ◌∷◌, map, drop, Some}
 use Rattle.std.specs.List.{slice_get}
 use Rattle.def_machine.specs.Trees.{Leaf}
@@ -30,69 +30,71 @@ abbrev pub turn_tree : List Rule → Attempt → Turn → Asking
 turn_tree ms P (Asks r) = row_tree ms P (reading_of r)
 turn_tree ms P (Moves m) = Leaf (move_of m)
 
--- A step that began in this phase may ask this. What it does may be done by any.
+-- A step that began in this phase may take this turn. If the turn ends the step, the phase does not matter.
 abbrev pub IsTurnOf : Phase → Turn → Type 0
 IsTurnOf p (Asks r) = begun_in (reading_of r) ≡ p
 IsTurnOf p (Moves m) = Unit {0}
 
--- The step in hand goes on to what the `Turn` has come to, within this budget.
+-- The step in hand has gone on to this turn, within this budget.
 abbrev pub HasFollowed : ℕ → Turn → State → State → Type 0
 HasFollowed B turn s s' = (ms : List Rule) → course ms s' ≡ coming_to B s.attempt (turn_tree ms s.attempt turn)
 
--- The step of an attempt at this operation has come to this, whatever the mappings.
+-- For each attempt at this operation, the turn leads to this tree, whatever the mappings.
 abbrev pub ComesTo : Operation → Asking → Turn → Type 0
 ComesTo op tree turn = (ms : List Rule) (P : Attempt) → P.operation ≡ op → turn_tree ms P turn ≡ tree
 
--- These named nulls are still to be looked up, with those found before.
+-- The turn looks up these named nulls, given those found before.
 abbrev pub LooksUp : Operation → Found → List NullName → Turn → Type 0
 LooksUp op found ns = ComesTo op (named op found ns)
 
--- It is asked whether the operation's tuple is there, its named nulls resolved by those found.
+-- The turn asks whether the operation's tuple is there, with its named nulls resolved by those found.
 abbrev pub AsksPresent : Operation → Found → Turn → Type 0
 AsksPresent op found = ComesTo op (present op found)
 
--- The step of any attempt has come to this.
+-- For any attempt, the turn leads to this tree.
 abbrev pub AlwaysComesTo : Asking → Turn → Type 0
 AlwaysComesTo tree turn = (ms : List Rule) (P : Attempt) → turn_tree ms P turn ≡ tree
 
--- The step of any attempt has come to where this is asked.
+-- For any attempt, the turn leads to the state r of the step.
 abbrev pub StandsAt : Row → Turn → Type 0
 StandsAt r turn = (ms : List Rule) (P : Attempt) → turn_tree ms P turn ≡ row_tree ms P r
 
--- The step of any attempt has gone on from there by the answer.
+-- For any attempt, the turn is how the step goes on from r with the answer.
 abbrev pub HasGoneOn : Row → Reply → Turn → Type 0
 HasGoneOn r a turn = (ms : List Rule) (P : Attempt) → turn_tree ms P turn ≡ goes_on ms P r a
 
--- The step of an attempt at this operation has.
+-- For each attempt at this operation, the turn is how the step goes on from r with the answer.
 abbrev pub HasGoneOnFor : Operation → Row → Reply → Turn → Type 0
 HasGoneOnFor op r a turn = (ms : List Rule) (P : Attempt) → P.operation ≡ op → turn_tree ms P turn ≡ goes_on ms P r a
 
--- The look of an attempt at the update of this number has, by these mappings.
+-- For each attempt at the update of this number, the turn is how the look goes on from r with the answer, given these mappings.
 abbrev pub HasLookedOn : List Rule → ℕ → Row → Reply → Turn → Type 0
 HasLookedOn ms number r a turn = (P : Attempt) → P.number ≡ number → turn_tree ms P turn ≡ goes_on ms P r a
 
--- The look of an attempt at the update of this number is at the mappings from this place on.
+-- For each attempt at the update of this number, the turn is the look at the mappings from this place on.
 abbrev pub LooksFrom : List Rule → ℕ → ℕ → Turn → Type 0
 LooksFrom ms number from turn = (P : Attempt) → P.number ≡ number → turn_tree ms P turn ≡ look_from P from (drop from ms)
 
--- The look is at the mapping of this number, which may be in force for the update, and at those after it.
+-- The turn is the look at mapping n, if it may be in force for the update, and at those after it.
 abbrev pub LooksAt : ℕ → Rule → Turn → Type 0
 LooksAt n m turn =
     (ms : List Rule) (P : Attempt) → m.since ≤ P.number → slice_get ms n ≡ Some m → turn_tree ms P turn ≡ look_from P n (m ∷ drop (suc n) ms)
 
--- The look ends with the repair of this violation of the mapping, with fresh nulls.
+-- The turn ends the look with the repair of this violation of the mapping, with fresh nulls.
 abbrev pub Repairs : Fresh → Direction → ℕ → Rule → List Fact → Turn → Type 0
 Repairs fresh d n m image turn = (ms : List Rule) (P : Attempt) → DrawsFrom P fresh → turn_tree ms P turn ≡ repair P d n m image
 
--- With these tuples that hold the null to be replaced, where that stands for this value: the null that replaces it is looked up, or they are rewritten.
+-- If the null to be replaced stands for the value d, and the tuples ts hold it, the turn looks up the null that replaces it, or
+-- rewrites the tuples.
 abbrev pub Replaces : Operation → Datum → List Fact → Turn → Type 0
 Replaces op d ts turn = (ms : List Rule) (P : Attempt) (n : NullName) → standing_for n ts ≡ d → turn_tree ms P turn ≡ replaced op n ts
 
--- The attempt has this operation, and draws its next null where the fresh ones begin.
+-- The attempt has this operation, and the next null that it draws is the first of the fresh ones.
 pub record IsOf (P : Attempt) (f : Fresh) (op : Operation) : Type 0 where
   pub draws : DrawsFrom P f
   pub operation : P.operation ≡ op
 
--- The step of such an attempt has gone on from there by the answer, by these mappings.
+-- For each attempt with this operation and these fresh nulls, the turn is how the step goes on from r with the answer, given
+-- these mappings.
 abbrev pub HasGoneOnAs : List Rule → Fresh → Operation → Row → Reply → Turn → Type 0
 HasGoneOnAs ms fresh op r a turn = (P : Attempt) → IsOf P fresh op → turn_tree ms P turn ≡ goes_on ms P r a

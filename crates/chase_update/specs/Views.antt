@@ -1,4 +1,4 @@
--- What a `Program` stands for, and what is true of each.
+-- The meaning of the parts of an `Attempt`, and what is always true of them.
 use Rattle.std.specs.Prelude.{◌≡◌, ◌<◌, ◌≤◌, ◌*◌, map, is_some, true}
 use Rattle.std.specs.Option.{option_map}
 use Rattle.base_types.specs.Meanings.{operation_of, change_of}
@@ -7,7 +7,7 @@ use Rattle.chase_update.specs.Courses.{State}
 use Rattle.chase_update.specs.PointMeanings.{phase_at, row_at}
 use Rattle.chase_update.specs.declared.attempts.Parts.{Parts}
 
--- The attempt as it is between two steps, or was when the step in hand began, with that step.
+-- The attempt between two steps, or as it was when the step in hand began, together with that step.
 abbrev pub state_of : Parts → State
 state_of p =
     record {
@@ -24,7 +24,8 @@ state_of p =
       reading = option_map (λ row. record { budget = p.hand.budget; row = row }) (row_at p.point);
     }
 
--- At most 1000001 steps, each of which draws at most 64 nulls and takes at most one answer. A step in hand is within its budget, and takes an answer where it began at a question.
+-- At most 1000001 steps, each of which draws at most 64 nulls and takes at most one answer. A step in hand is within its budget,
+-- and takes an answer exactly if it began at a question.
 pub record IsCounted (p : Parts) : Type 0 where
   pub steps : p.steps ≤ 1000001
   pub nulls : p.nulls ≤ 64 * p.steps

@@ -1,4 +1,4 @@
-//! How a step of an operation or of a look goes on by an answer.
+//! A step of an operation or of a look goes on with an answer.
 ghost use Rattle.std.specs.Prelude.{◌≡◌, ◌+◌, ◌<◌, IfOk, IfSome, IfNone};
 ghost use Rattle.base_types.specs.Meanings.{operation_of};
 ghost use Rattle.chase_query.specs.Meanings.{query_of, reply_of};
@@ -19,8 +19,8 @@ use chase_query::Reply;
 use chase_repair::Fresh;
 use std::alloc::Global;
 
-/// Goes on by the answer to the query that is asked. It gives None where that is whether the operation's tuple is there, which is
-/// then to be written where it stands.
+/// Goes on with the answer to the present query. It returns None if the query asks whether the operation's tuple is there; the
+/// caller then writes the tuple in place.
 pub(crate) fn answered(
     alloc: Global,
     operation: &Operation,

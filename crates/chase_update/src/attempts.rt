@@ -1,4 +1,4 @@
-//! A program: an attempt at an update, step by step.
+//! An attempt at an update, step by step.
 ghost use Rattle.std.specs.Prelude.{◌≡◌, ◌<◌, ◌≤◌, true, false, None, List, is_some, IfOk, OnOk, OnErr};
 ghost use Rattle.def_chase.specs.Mappings.{Rule};
 ghost use Rattle.base_types.specs.Meanings.{choice_of, operation_of};
@@ -38,13 +38,13 @@ pub(crate) struct Hand {
 }
 
 /// An attempt at an update, which asks queries and questions, takes their answers, and makes the steps of the chase. It is a
-/// pointer, so that it is small where it moves. Contracts see it as its attempt and the step in hand.
+/// pointer, so it is cheap to move. Contracts see it as a `State`: the attempt, and the step in hand.
 #[derive(Debug, Drop)]
 pub struct Attempt {
     pub(crate) parts: Box<Parts>,
 }
 
-/// What a program is made of: its update, its writes, its counts, and where it stands.
+/// The parts of an attempt: its update, its writes, its counts, and its point.
 #[derive(Debug, Drop)]
 pub(crate) struct Parts {
     pub(crate) number: u32,
@@ -71,7 +71,7 @@ impl Model for Attempt {
 }
 
 impl Attempt {
-    /// The attempt of that number at an update, at its start. `number` is the update's.
+    /// Attempt number `attempt` at the update, at its start. `number` is the update's.
     pub fn start(
         alloc: Global,
         update: &Update,
@@ -84,7 +84,7 @@ impl Attempt {
         Attempt::at_start(alloc, number, attempt, operation)
     }
 
-    /// The attempt of that number at the operation, at its start. `number` is the update's.
+    /// Attempt number `attempt` at the operation, at its start. `number` is the update's.
     pub(crate) fn at_start(
         alloc: Global,
         number: u32,
@@ -112,8 +112,8 @@ impl Attempt {
         })
     }
 
-    /// What is wanted next: the answer to a query exactly where the step in hand asks that query first, and else what the attempt
-    /// between two steps wants.
+    /// What the attempt wants next. This is the answer to a query exactly if the step in hand asks that query first; otherwise it
+    /// is what the attempt wants between two steps.
     #[inline]
     pub fn wants(&self) -> Want<'_>
         ensures want { want_of result ≡ wish self.now }
@@ -130,8 +130,8 @@ impl Attempt {
         }
     }
 
-    /// Begins the next step, up to its first query or its end. The budget is that of the attempt; with its last step
-    /// made, an attempt that has not ended is spent. While the step asks, the attempt stays as it was.
+    /// Begins the next step, up to its first query or its end. The budget is the attempt's: if it has not ended with the last
+    /// step of the budget, it is spent. While the step asks, the attempt is unchanged.
     pub fn begin(
         &mut self,
         alloc: Global,
@@ -163,7 +163,7 @@ impl Attempt {
         }
     }
 
-    // Begins the step of the operation. It stands apart, since it is rare and what it comes to is large.
+    // Begins the step of the operation. It is a function of its own, since the step is rare and its result is large.
     fn operate(&mut self, alloc: Global, hand: Hand) -> Result<(), Memory>
         requires left { self.old.attempt.steps < hand.budget }
         requires phase { self.old.attempt.phase ≡ Start }
@@ -200,8 +200,8 @@ impl Attempt {
         }
     }
 
-    /// Takes the answer to the query that is asked, and goes on by it up to the next query or the end of the step. While
-    /// the step asks, the attempt stays as it was.
+    /// Takes the answer to the present query, and goes on with it up to the next query or the end of the step. While the step
+    /// asks, the attempt is unchanged.
     pub fn take(
         &mut self,
         alloc: Global,
@@ -219,8 +219,8 @@ impl Attempt {
         self.goes_on(alloc, answer, mappings)
     }
 
-    // Goes on in place in a look that finds no violation of a mapping, where the next one that may be in force is so from
-    // the start, and says so. Else the program stays as it is.
+    // If a look finds no violation of a mapping, and the next mapping that may be in force is so from the start, goes on to it in
+    // place and returns true. Otherwise nothing changes.
     fn looks_on(&mut self, answer: &Reply, mappings: &Mappings<'_>) -> bool
         ensures step { result ≡ true → HasAnswered mappings.now answer.now self.old self.new }
         ensures attempt { self.new.attempt ≡ self.old.attempt }
@@ -236,7 +236,7 @@ impl Attempt {
         }
     }
 
-    // Goes on by the answer up to the next query or the end of the step.
+    // Goes on with the answer up to the next query or the end of the step.
     fn goes_on(
         &mut self,
         alloc: Global,
@@ -276,8 +276,8 @@ impl Attempt {
         }
     }
 
-    /// Takes an answer that fits the question, and makes the step of it up to its first query or its end. The budget is
-    /// as for `begin`. While the step asks, the attempt stays as it was.
+    /// Takes an answer that fits the question, and makes the step of the answer up to its first query or its end. The budget is
+    /// as for `begin`. While the step asks, the attempt is unchanged.
     pub fn choose(
         &mut self,
         alloc: Global,
@@ -308,7 +308,7 @@ impl Attempt {
         }
     }
 
-    // Goes on to what the step has come to.
+    // Takes over the turn of the step: the query that it asks next, or its end.
     fn follow(&mut self, alloc: Global, turn: Turn, hand: Hand) -> Result<(), Memory>
         requires left { self.old.attempt.steps < hand.budget }
         requires answers { hand.answers ≡ is_some (question_in self.old.attempt.phase) }
@@ -328,7 +328,7 @@ impl Attempt {
         }
     }
 
-    // Does what the step does, and counts it.
+    // Ends the step: takes over its writes and its point, and counts it.
     fn make(&mut self, alloc: Global, step: Move, hand: Hand) -> Result<(), Memory>
         requires left { self.old.attempt.steps < hand.budget }
         requires answers { hand.answers ≡ is_some (question_in self.old.attempt.phase) }
@@ -343,7 +343,7 @@ impl Attempt {
         Ok(())
     }
 
-    // Counts the step that has left the attempt as it is now.
+    // Counts a step whose writes and point are taken over already.
     fn land(&mut self, drawn: u32, hand: Hand)
         requires rests { self.old.reading ≡ None }
         requires few { drawn ≤ 64 }
@@ -359,7 +359,7 @@ impl Attempt {
         spend(&mut parts.point, parts.steps, hand.budget);
     }
 
-    // From where the attempt draws its nulls.
+    // The source of the attempt's next nulls.
     fn fresh(&self) -> Fresh
         ensures draws { DrawsFrom self.now.attempt result }
         ensures room { result.drawn ≤ 64000064 }

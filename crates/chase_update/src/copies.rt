@@ -1,4 +1,4 @@
-//! What a program tells of its attempt, and a copy of it.
+//! The writes and counts of an attempt, and a copy of it.
 ghost use Rattle.std.specs.Prelude.{◌≡◌, ◌≤◌, ◌↔◌, map, IfOk, IsTrue};
 ghost use Rattle.def_steps.specs.Attempts.{Look};
 ghost use Rattle.def_chase.specs.Updates.{direction_of};
@@ -22,7 +22,7 @@ impl Attempt {
         self.parts.own.list()
     }
 
-    /// The writes that the attempt has made, in order, for which it is given up.
+    /// The writes that the attempt has made, in order; it consumes the attempt.
     pub fn into_own(self, alloc: Global) -> Result<WriteList, Memory>
         ensures own { IfOk result (λ own. map change_of own.items ≡ self.attempt.own) }
     {
@@ -30,7 +30,8 @@ impl Attempt {
         parts.own.into_list(alloc)
     }
 
-    /// A copy to make the next step on, which takes along what the attempt keeps to make more writes. The attempt stays as it is.
+    /// A copy on which to make the next step. It takes over the list that the attempt keeps for further writes. The attempt means
+    /// the same as before.
     pub fn branch(&mut self, alloc: Global) -> Result<Attempt, Memory>
         ensures same { IfOk result (λ branch. branch ≡ self.old) }
         ensures stays { self.new ≡ self.old }
@@ -39,7 +40,7 @@ impl Attempt {
         self.with(alloc, own)
     }
 
-    // A copy with these writes, which are the attempt's.
+    // A copy with the writes `own`, which must be the attempt's.
     fn with(&self, alloc: Global, own: Own) -> Result<Attempt, Memory>
         requires own { changes_of own ≡ self.now.attempt.own }
         ensures same { IfOk result (λ copy. copy ≡ self.now) }
@@ -57,7 +58,8 @@ impl Attempt {
         Ok(copy)
     }
 
-    /// Lets copies of it share its writes from now on. It keeps those that it had before, to make more. It stays as it is.
+    /// Lets copies of the attempt share its writes from now on. It may keep the list of `before` for further writes. The attempt
+    /// means the same as before.
     pub fn share(&mut self, alloc: Global, before: &Attempt) -> Result<(), Memory>
         requires first { IsPrefix before.now.attempt.own self.old.attempt.own }
         ensures same { self.new ≡ self.old }
@@ -66,7 +68,7 @@ impl Attempt {
         Ok(())
     }
 
-    /// How many steps it has made.
+    /// The number of steps that it has made.
     pub fn steps(&self) -> u32
         ensures steps { result ≡ self.now.attempt.steps }
         ensures most { result ≤ 1000001 }
@@ -74,14 +76,14 @@ impl Attempt {
         self.parts.steps
     }
 
-    /// How many nulls it has drawn.
+    /// The number of nulls that it has drawn.
     pub fn nulls(&self) -> u32
         ensures nulls { result ≡ self.now.attempt.nulls }
     {
         self.parts.nulls
     }
 
-    /// How many answers to questions it has taken.
+    /// The number of answers to questions that it has taken.
     pub fn taken(&self) -> u32
         ensures taken { result ≡ self.now.attempt.taken }
         ensures most { result ≤ self.now.attempt.steps }

@@ -1,4 +1,4 @@
-//! What the count of a step leaves of an attempt.
+//! The counts of an attempt after a step.
 ghost use Rattle.std.specs.Prelude.{◌≡◌, ◌+◌, ◌≤◌, suc, if◌then◌else◌, None};
 ghost use Rattle.chase_update.specs.Courses.{unless_spent};
 ghost use Rattle.chase_update.specs.PointMeanings.{phase_at, row_at};
@@ -16,7 +16,7 @@ pub(crate) fn taken_after(taken: u32, answers: bool) -> u32
     if answers { taken + 1 } else { taken }
 }
 
-/// Keeps the point, unless all steps are made and the attempt has not ended there: it is then spent.
+/// Keeps the point, but the attempt is spent if all steps of the budget are made and it has not ended there.
 pub(crate) fn spend(point: &mut Point, steps: u32, budget: Budget)
     requires { row_at point.old ≡ None }
     ensures phase { phase_at point.new ≡ unless_spent budget steps (phase_at point.old) }

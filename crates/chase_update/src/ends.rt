@@ -1,4 +1,4 @@
-//! How an attempt ends, and what a program wants.
+//! How an attempt ends, and what it wants.
 ghost use Rattle.std.specs.Prelude.{◌≡◌};
 ghost use Rattle.chase_update.specs.Wishes.{end_in};
 ghost use Rattle.chase_update.specs.PointMeanings.{outcome_of, end_of};
@@ -7,8 +7,8 @@ use base_types::Null;
 use chase_query::Query;
 use chase_question::Question;
 
-/// How an attempt ended: all mappings in force hold; its budget of steps has run out; or a null that the update names,
-/// of this update and place, is nowhere in the repository.
+/// How an attempt ended: all mappings in force hold; its budget of steps has run out; or the update names the null of this update
+/// and place, which is nowhere in the repository.
 #[derive(Clone, Copy, Debug, PartialEq, Eq)]
 pub enum Outcome {
     Done,
@@ -16,8 +16,8 @@ pub enum Outcome {
     Refused { update: u32, place: u32 },
 }
 
-/// What a program wants next: the answer to a query, the answer to a question, nothing any more, since it has ended, or
-/// that its next step is begun.
+/// What an attempt wants next: the answer to a query; the answer to a question; nothing, since it has ended; or a call that
+/// begins its next step.
 #[derive(Clone, Copy)]
 pub enum Want<'a> {
     Read(&'a Query),
@@ -35,7 +35,7 @@ pub(crate) enum End {
 }
 
 impl End {
-    /// What people are told of it.
+    /// The end as people see it: without the attempt of the null.
     pub(crate) fn told(self) -> Outcome
         ensures told { end_of result ≡ end_in (outcome_of self) }
     {

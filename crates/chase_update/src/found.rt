@@ -10,7 +10,7 @@ ghost use Rattle.def_steps.specs.Rewriting.{standing_for as standing_for_def};
 ghost use Rattle.chase_update.specs.Found.{settled as settled_def, stands_for as stands_for_def, first_named as first_named_def, is_found, some_of as some_of_def, holders_in};
 ghost use Rattle.chase_update.specs.RowMeanings.{resolved_of};
 
-use base_types::{List, Memory, Null, TryCopy, Tuple, TupleList, Value};
+use base_types::{List, Memory, Null, OuterName, TryCopy, Tuple, TupleList, Value};
 use chase_query::Reply;
 use std::alloc::Global;
 
@@ -42,7 +42,7 @@ impl TryCopy for ResolvedNull {
 /// Named nulls, each with the value that it stands for.
 pub(crate) type ResolvedNullList = List<ResolvedNull>;
 
-/// The tuples of an answer to `Occurs`; None exactly where there are none.
+/// The tuples of an answer to `Occurs`; None exactly if there are none.
 pub(crate) fn holders(answer: &Reply) -> Option<&TupleList>
     ensures found { option_map facts_of (option_copied result) ≡ holders_in (reply_of answer.now) }
 {
@@ -66,8 +66,8 @@ fn some_of(tuples: &TupleList) -> Option<&TupleList>
     }
 }
 
-/// What the named null stands for: the value of that outer name which stands first in the first of the tuples. It is the number 0
-/// where none does.
+/// The value that the named null stands for: the first null with its update and place in the first of the tuples; the number 0 if
+/// there is none.
 pub fn standing_for(alloc: Global, name: Null, tuples: &TupleList) -> Result<Value, Memory>
     ensures value { IfOk result (λ value. datum_of value ≡
         standing_for_def (null_of name) (facts_of tuples.now)) }
@@ -78,37 +78,26 @@ pub fn standing_for(alloc: Global, name: Null, tuples: &TupleList) -> Result<Val
     }
 }
 
-// A copy of the first of the values that is a null of that outer name; the number 0 where none is.
+// A copy of the first null of the same outer name among the values; the number 0 if there is none.
 fn first_named(alloc: Global, name: Null, values: &[Value]) -> Result<Value, Memory>
     ensures value { IfOk result (λ value. datum_of value ≡
         first_named_def (null_of name) (map datum_of values.now)) }
 {
-    match find_named(name, values) {
+    match find_named(name.outer_name(), values) {
         Some(value) => value.copy(alloc),
         None => Ok(Value::Int(0)),
     }
 }
 
-// The first of the values that is a null of that outer name.
-fn find_named(name: Null, values: &[Value]) -> Option<&Value>
+// The first null of this outer name among the values.
+fn find_named(name: OuterName, values: &[Value]) -> Option<&Value>
     ensures found { option_map datum_of (option_copied result) ≡
         find (is_named_def name.update name.place) (map datum_of values.now) }
 {
-    values.iter().find(|value| is_named(value, name))
+    values.iter().find(|value| value.is_named(name))
 }
 
-// Whether the value is a null of that outer name.
-fn is_named(value: &Value, name: Null) -> bool
-    ensures answer { result ≡ is_named_def name.update name.place (datum_of value.now) }
-{
-    match value {
-        Value::Null(null) => null.update == name.update && null.place == name.place,
-        Value::Int(_) => false,
-        Value::Word(_) => false,
-    }
-}
-
-/// The tuple with each null replaced by what it stands for, and by the number 0 where it was not found.
+/// The tuple with each null replaced by the value that it stands for, or by the number 0 if it was not found.
 pub(crate) fn resolved(
     alloc: Global,
     found: &[ResolvedNull],
@@ -125,7 +114,7 @@ pub(crate) fn resolved(
     Tuple::new(alloc, tuple.relation, values)
 }
 
-// What the value stands for: itself, where it is no null.
+// The value that the value stands for: itself, unless it is a null.
 fn settled(alloc: Global, found: &[ResolvedNull], value: &Value) -> Result<Value, Memory>
     ensures value { IfOk result (λ known. datum_of known ≡
         settled_def (map resolved_of found.now) (datum_of value.now)) }
@@ -137,7 +126,7 @@ fn settled(alloc: Global, found: &[ResolvedNull], value: &Value) -> Result<Value
     }
 }
 
-// A copy of what the named null stands for; the number 0 where it was not found.
+// A copy of the value that the named null stands for; the number 0 if it was not found.
 fn stands_for(alloc: Global, found: &[ResolvedNull], name: Null) -> Result<Value, Memory>
     ensures value { IfOk result (λ value. datum_of value ≡
         stands_for_def (map resolved_of found.now) (null_of name)) }

@@ -1,4 +1,4 @@
-//! What a program tells of the step that it takes next: its update, and the forward repair in hand.
+//! The update of an attempt, and its forward repair in hand.
 ghost use Rattle.std.specs.Prelude.{◌≡◌, None, IfOk};
 ghost use Rattle.std.specs.Option.{option_map};
 ghost use Rattle.def_chase.specs.Updates.{Unify};
@@ -23,14 +23,14 @@ impl Attempt {
         self.parts.number
     }
 
-    /// What its update is to do.
+    /// The operation of its update.
     pub fn operation(&self) -> &Operation
         ensures operation { operation_of result.now ≡ self.now.attempt.operation }
     {
         &self.parts.operation
     }
 
-    /// Whether its next step is the first, that of the operation.
+    /// Whether its next step is its first, which is the step of the operation.
     pub fn is_at_start(&self) -> bool
         requires between { self.now.reading ≡ None }
         ensures start { result ≡ is_start self.now.attempt.phase }
@@ -38,7 +38,7 @@ impl Attempt {
         matches!(&self.parts.point, Point::Start)
     }
 
-    /// The mapping of the forward repair in hand, and the values of its variables; None exactly where none is in hand.
+    /// The mapping of the forward repair in hand, and the values of its variables; None exactly if none is in hand.
     pub fn bound(&self) -> Option<Bound<'_>>
         ensures bound { option_map bound_of result ≡ bound_in self.now.attempt.phase }
     {
@@ -51,7 +51,7 @@ impl Attempt {
         }
     }
 
-    /// The unifier of the generated tuple in question and the candidate of this form, which fits the question.
+    /// The unifier of the generated tuple in question and the candidate with this outer form. The form must fit the question.
     pub fn unifier_with(&self, alloc: Global, form: &Tuple) -> Result<Sub, Memory>
         requires { Fits (wish self.now) (Unify (fact_of form.now)) }
         ensures unifier { IfOk result

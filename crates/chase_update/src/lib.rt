@@ -1,13 +1,12 @@
-//! An update as a program: a value that asks queries and questions, takes their answers, and makes the steps of the
-//! chase.
+//! An attempt at an update, as a value that asks queries and questions, takes their answers, and makes the steps of the chase.
 //!
-//! Contracts see a `Attempt` as its attempt, as it stands between two steps or stood when the step in hand began, and
-//! where that step stands (`State` of `specs/Courses.antt`). `course ms` of it, by the mappings `ms`, is the tree of
-//! the queries that are still asked, which ends in the attempt after the step: a call that begins a step or takes an
-//! answer says which tree that is, by the definition of the step in `def_steps`. `ms` is `mappings.now`.
-//! A look that passes over settled mappings comes to the same with no more queries (`IsShorter` of `specs/Settled.antt`).
+//! Contracts see an `Attempt` as a `State` of `specs/Courses.antt`: the attempt between two steps, or as it was when the step in
+//! hand began, and that step. For the mappings `ms`, `course ms` of a state is the tree of the queries that the step still asks,
+//! which ends in the attempt after the step. Each call that begins a step or takes an answer says which tree that is, by the
+//! definition of the step in `def_steps`. `ms` is `mappings.now`. A look that passes over settled mappings has the same result
+//! with no more queries (`IsShorter` of `specs/Settled.antt`).
 //!
-//! `Err` is want of memory, of which no clause can say when it comes; the program is then unchanged.
+//! On `Err`, the attempt is unchanged.
 #![tactic(auto)]
 
 mod answering;

@@ -36,8 +36,8 @@ pub(crate) fn look(
     }
 }
 
-// Asks for the first violation of a mapping that is in force from the start; of another one, first whether it has been
-// put in force.
+// Asks for the first violation of the mapping if it is in force from the start; otherwise asks first whether it has been put in
+// force.
 fn look_at(alloc: Global, place: u16, mapping: &Mapping) -> Result<Turn, Memory>
     ensures value { IfOk result (LooksAt place (rule_of mapping.now)) }
     ensures turn { IfOk result (IsTurnOf Look) }
@@ -68,7 +68,7 @@ fn asks_force(alloc: Global, place: u16) -> Result<Turn, Memory>
     }))
 }
 
-/// Goes on by whether the mapping has been put in force.
+/// Goes on with the answer whether the mapping has been put in force.
 pub(crate) fn found_force(
     alloc: Global,
     number: u32,
@@ -87,7 +87,7 @@ pub(crate) fn found_force(
     }
 }
 
-/// Goes on by the first violation of the mapping: begins its repair, or looks on.
+/// Goes on with the answer for the first violation of the mapping: begins its repair, or looks at the next mapping.
 pub(crate) fn found_violation(
     alloc: Global,
     operation: &Operation,

@@ -1,11 +1,11 @@
-//! What a step does.
+//! The effect of a step.
 ghost use Rattle.std.specs.Prelude.{◌≡◌, ◌≤◌, None};
 ghost use Rattle.chase_update.specs.PointMeanings.{row_at};
 
 use crate::points::Point;
 use base_types::WriteList;
 
-/// What a step does: its writes, the point between two steps at which it leaves the program, and how many nulls it draws.
+/// The effect of a step: its writes, the point of the attempt after it, and the number of nulls that it draws.
 #[derive(Debug, Drop)]
 pub(crate) struct Move {
     pub(crate) writes: WriteList,

@@ -63,7 +63,7 @@ impl Own {
         }
     }
 
-    /// The writes as a list, for which they are given up.
+    /// The writes as a list; it consumes the value.
     pub(crate) fn into_list(self, alloc: Global) -> Result<WriteList, Memory>
         ensures same { IfOk result (λ writes. changes_of writes ≡ changes_of self) }
     {
@@ -73,7 +73,7 @@ impl Own {
         }
     }
 
-    /// Another list of the same writes, which shares them where they are shared already.
+    /// Another handle to the same writes: it shares them if they are shared already, otherwise it copies them.
     pub(crate) fn copy(&self, alloc: Global) -> Result<Own, Memory>
         ensures same { IfOk result (λ copy. changes_of copy ≡ changes_of self.now) }
     {
@@ -87,7 +87,7 @@ impl Own {
         }
     }
 
-    /// Another list of the same writes, which takes along what these keep to make more.
+    /// Another handle to the same writes, which takes over the list that these keep for further writes.
     pub(crate) fn branch(&mut self, alloc: Global) -> Result<Own, Memory>
         ensures same { IfOk result (λ branch. changes_of branch ≡ changes_of self.old) }
         ensures stays { self.new ≡ self.old }
@@ -102,8 +102,8 @@ impl Own {
         }
     }
 
-    /// Lets copies share the writes from now on, of which the first may be kept where they are shared already. The writes stay as
-    /// they are.
+    /// Lets copies share the writes from now on. If both are shared already, the list of the first ones may be kept. The writes
+    /// stay the same.
     pub(crate) fn share(&mut self, alloc: Global, first: &Own) -> Result<(), Memory>
         requires first { IsPrefix (changes_of first.now) (changes_of self.old) }
         ensures same { self.new.items ≡ self.old.items }
@@ -132,7 +132,7 @@ impl Own {
         }
     }
 
-    // Keeps the first of the writes, where both are shared.
+    // Keeps the list of the first of the writes, if both are shared.
     fn keep(&mut self, first: &Own) -> Result<(), Memory>
         requires first { IsPrefix (changes_of first.now) (changes_of self.old) }
         ensures same { self.new.items ≡ self.old.items }
@@ -146,7 +146,7 @@ impl Own {
         }
     }
 
-    // The writes as a list, a copy where they are shared. What is left is to be replaced by it.
+    // The writes as a list, a copy if they are shared. The caller must put the list back.
     fn take(&mut self, alloc: Global) -> Result<WriteList, Memory>
         ensures taken { IfOk result (λ writes. changes_of writes ≡ changes_of self.old) }
         ensures kept { OnErr result (self.new ≡ self.old) }
@@ -157,7 +157,7 @@ impl Own {
         }
     }
 
-    /// Puts the writes at the end. If it is refused, they stay as they are.
+    /// Adds the writes at the end. If it is refused, nothing changes.
     pub(crate) fn append(&mut self, alloc: Global, writes: WriteList) -> Result<(), Memory>
         ensures ok { OnOk result (changes_of self.new ≡ changes_of self.old ++ changes_of writes) }
         ensures err { OnErr result (changes_of self.new ≡ changes_of self.old) }
@@ -171,8 +171,8 @@ impl Own {
         made
     }
 
-    /// An insertion writes the tuple that is asked about where it is not there, a deletion where it is. A look comes next. If it
-    /// is refused, everything is unchanged.
+    /// An insertion writes the tuple of the query if it is not there, a deletion if it is. A look comes next. If it is refused,
+    /// everything is unchanged.
     pub(crate) fn write(
         &mut self,
         alloc: Global,
@@ -193,7 +193,7 @@ impl Own {
         made
     }
 
-    /// The repair takes the answer to its query, as `Repair::answer` says, and puts its writes at the end.
+    /// Gives the repair the answer to its query, as `Repair::answer` says, and adds its writes at the end.
     pub(crate) fn answer(
         &mut self,
         alloc: Global,
@@ -219,7 +219,7 @@ impl Own {
         }
     }
 
-    /// The repair takes the answer to its question, as `Repair::choose` says, and puts its writes at the end.
+    /// Gives the repair the answer to its question, as `Repair::choose` says, and adds its writes at the end.
     pub(crate) fn choose(
         &mut self,
         alloc: Global,

@@ -16,8 +16,8 @@ use base_limits::Mappings;
 use base_types::Mapping;
 use chase_query::{Query, Reply};
 
-/// Goes on in place where the answer finds no violation of the mapping, and the next one that may be in force is so from
-/// the start: its first violation is then asked for, and the answer says so. Else the step stays where it is.
+/// If the answer finds no violation of the mapping, and the next mapping that may be in force is so from the start, asks for that
+/// one's first violation in place and returns true. Otherwise the step is unchanged.
 pub(crate) fn looks_on(
     reading: &mut Reading,
     number: u32,
@@ -39,8 +39,8 @@ pub(crate) fn looks_on(
     }
 }
 
-// The place of the mapping that is next in force from the start, where the answer finds no violation at the place of this
-// row, and no mapping between may be in force.
+// The place of the next mapping that may be in force, if that one is in force from the start and the answer finds no violation of
+// this row's mapping.
 fn next_looked_at(row: &Row, number: u32, answer: &Reply, mappings: &Mappings<'_>) -> Option<u16>
     ensures goes { IfSome result (λ next.
         (q : QueryMeant) → LooksOn mappings.now number (row_of row.now q) (reply_of answer.now)

@@ -1,4 +1,4 @@
-//! Where a program stands.
+//! The points of an attempt.
 ghost use Rattle.std.specs.Prelude.{◌≡◌, is_some, IfOk};
 ghost use Rattle.def_steps.specs.Attempts.{outcome_in};
 ghost use Rattle.chase_update.specs.PointMeanings.{phase_at, point_of};
@@ -9,8 +9,8 @@ use base_types::{Memory, TryCopy};
 use chase_repair::Repair;
 use std::alloc::Global;
 
-/// Where a program stands: at the start of its operation, at a look, in the repair of a violation, at its end, or within
-/// a step of its operation or of a look.
+/// The point of an attempt: at the start of its operation, at a look, in the repair of a violation, at its end, or within a step
+/// of its operation or of a look.
 #[derive(Debug, Drop)]
 pub(crate) enum Point {
     Start,

@@ -9,7 +9,7 @@ use base_types::{Memory, TryCopy};
 use chase_query::Query;
 use std::alloc::Global;
 
-/// Where a step in hand stands, with the query that it asks.
+/// The state of a step in hand, with the query that it asks.
 #[derive(Debug, Drop)]
 pub(crate) struct Reading {
     pub(crate) query: Query,

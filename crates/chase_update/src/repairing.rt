@@ -1,4 +1,4 @@
-//! What the repair in hand wants, as its program wants it.
+//! What the repair in hand wants, as its attempt wants it.
 ghost use Rattle.std.specs.Prelude.{◌≡◌, ◌↔◌, true, false, None, IsTrue};
 ghost use Rattle.def_steps.specs.Attempts.{Look};
 ghost use Rattle.chase_repair.specs.Repairs.{is_asking, phase_of};
@@ -9,7 +9,7 @@ ghost use Rattle.chase_update.specs.PointMeanings.{want_of};
 use crate::ends::Want;
 use chase_repair::{Repair, RepairWant};
 
-/// What a repair wants, as a program wants it.
+/// What a repair wants, as an attempt wants it.
 pub(crate) fn want_of_repair(repair: &Repair) -> Want<'_>
     ensures want { want_of result ≡ wish_of_repair repair.now }
     ensures rests { query_wished (want_of result) ≡ None → is_asking repair.now ≡ false }

@@ -21,7 +21,7 @@ use chase_query::{Query, Reply};
 use chase_repair::{boxed, rewrite};
 use std::alloc::Global;
 
-/// Goes on by the answer to the look-up of the null that is to be replaced.
+/// Goes on with the answer to the look-up of the null to be replaced.
 pub(crate) fn found_replaced(
     alloc: Global,
     operation: &Operation,
@@ -44,7 +44,7 @@ pub(crate) fn found_replaced(
     }
 }
 
-// Looks up what is to stand in place of the null, if that is a null too; else rewrites the tuples that hold it.
+// Looks up the value that replaces the null, if that is a null too; otherwise rewrites the tuples that hold it.
 fn replaced(
     alloc: Global,
     operation: &Operation,
@@ -66,7 +66,7 @@ fn replaced(
                     tuples: tuples.copy(alloc)?,
                 };
                 Ok(Turn::Asks(Reading {
-                    query: Query::Occurs(name.update, name.place),
+                    query: Query::Occurs(name.outer_name()),
                     row: Row::Renaming(boxed(alloc, renaming)?),
                 }))
             }
@@ -77,7 +77,7 @@ fn replaced(
     }
 }
 
-/// Goes on by the answer to the look-up of the null that replaces the other one in these tuples.
+/// Goes on with the answer to the look-up of the null that replaces the other one in these tuples.
 pub(crate) fn found_replacement(
     alloc: Global,
     renaming: &Renaming,

@@ -1,4 +1,4 @@
-//! Where a step in hand stands.
+//! The state of a step in hand.
 ghost use Rattle.std.specs.Prelude.{◌≡◌, IfOk};
 ghost use Rattle.chase_update.specs.RowMeanings.{naming_of, renaming_of, row_of};
 
@@ -10,8 +10,8 @@ use std::alloc::Global;
 /// The named nulls of an operation, in order of first position.
 pub(crate) type NullList = List<Null>;
 
-/// The named nulls of an operation while they are looked up: those found, the one that is asked for, and all of them in
-/// order, of which those from place `next` on come after it.
+/// The named nulls of an operation while they are looked up: the nulls found, the one that is asked for, and all of them in
+/// order; the ones still to come are from place `next` on.
 #[derive(Debug, Drop)]
 pub(crate) struct Naming {
     pub(crate) found: ResolvedNullList,
@@ -28,9 +28,9 @@ pub(crate) struct Renaming {
     pub(crate) tuples: TupleList,
 }
 
-/// What a step in hand asks for: a named null of an operation; whether the operation's tuple is there; the null that is
-/// to be replaced; the null that replaces another one in tuples; whether a mapping is in force; or its first violation.
-/// What is rare and large is behind a pointer.
+/// What a step in hand asks for: a named null of an operation; whether the operation's tuple is there; the null to be replaced;
+/// the null that replaces another one in tuples; whether a mapping is in force; or its first violation. Large variants that are
+/// rare are held by pointers.
 #[derive(Debug, Drop)]
 pub(crate) enum Row {
     Naming(Box<Naming>),

@@ -1,4 +1,4 @@
-//! A look that passes over mappings that are settled.
+//! A look that passes over settled mappings.
 ghost use Rattle.std.specs.Prelude.{◌≡◌, ◌<◌, ◌≤◌, ◌+◌, ◌-◌, ◌++◌, ℕ, List, true, false, length, slice_index_or, map, IfOk, OnOk, OnErr};
 ghost use Rattle.base_types.specs.Meanings.{rule_of};
 ghost use Rattle.chase_query.specs.Meanings.{Read, passing, reads_in};
@@ -17,10 +17,10 @@ use base_types::{Mapping, Memory};
 use chase_query::{Logged, Passage, ReadLog};
 
 impl Attempt {
-    /// Passes, in a look, over mappings that are settled: `settled[n]` says that the mapping of number n has no violation that
-    /// counts. The step then asks for the first violation of the next mapping that is not settled; but of the last settled one
-    /// where the look would end behind it, or where it has to be asked whether the next one is in force. What the step comes to
-    /// is the same, and it asks no more than before.
+    /// Passes, in a look, over settled mappings: `settled[n]` says that mapping n has no violation that counts. The step then
+    /// asks for the first violation of the next mapping that is not settled. If the look would end before that, or would have to
+    /// ask whether a mapping is in force, it asks for the last settled one instead. The step has the same result as before, with
+    /// no more queries.
     pub fn pass(&mut self, settled: &[bool], mappings: &Mappings<'_>)
         ensures passed { HasPassed mappings.now settled.now self.old self.new }
         ensures attempt { self.new.attempt ≡ self.old.attempt }
@@ -31,9 +31,9 @@ impl Attempt {
         }
     }
 
-    /// Passes as `pass` does, and puts the passages of mappings that it passes at the end of the log: a read of each, that it has
-    /// no violation, by an attempt that had made so many writes. If it is refused, the program stays as it is, and some of the
-    /// reads may be in the log.
+    /// Passes as `pass` does, and adds the passages to the end of the log: for each passed mapping a read that it has no
+    /// violation, by an attempt that had made `made` writes. If it is refused, the attempt is unchanged, but some of the reads
+    /// may be in the log.
     pub fn pass_logged(
         &mut self,
         settled: &[bool],
@@ -54,8 +54,8 @@ impl Attempt {
     }
 }
 
-// Where the first violation of a mapping with a mark is asked for, passes on to the next mapping without a mark, or to
-// the last before one that may be in force, but is not so from the start.
+// If the step asks for the first violation of a mapping with a mark, passes on to the next mapping without a mark, or to the last
+// one before a mapping that may be in force, but is not so from the start.
 fn pass(reading: &mut Reading, number: u32, marks: &[bool], mappings: &Mappings<'_>)
     ensures passed { Passes mappings.now marks.now number (reading_of reading.old)
         (reading_of reading.new) }
@@ -67,8 +67,8 @@ fn pass(reading: &mut Reading, number: u32, marks: &[bool], mappings: &Mappings<
     }
 }
 
-// The first place from `from` on without a mark, if all mappings up to it that may be in force are so from the start;
-// else the last before one that is not, or before the end.
+// The first place from `from` on without a mark, if all mappings up to it that may be in force are so from the start; otherwise
+// the last place before one that is not, or before the end.
 fn first_unmarked(from: u16, number: u32, marks: &[bool], mappings: &Mappings<'_>) -> u16
     ensures passed { Passes mappings.now marks.now number (Violating from) (Violating result) }
 {
@@ -82,8 +82,8 @@ fn first_unmarked(from: u16, number: u32, marks: &[bool], mappings: &Mappings<'_
     place
 }
 
-// The last place of the passage from `from` on: each but the last has a mark, and the next one's mapping is in force from the
-// start. A look passes all but the last.
+// The last place of the passage from `from` on. Each place before the last has a mark, and the mapping after it is in force from
+// the start. A look passes all but the last.
 fn end_of_passage(from: u16, marks: &[bool], mappings: &Mappings<'_>) -> u16
     ensures passed { (number made : ℕ) (before : List Read) →
         PassesLogged mappings.now marks.now number made (Violating from) before
@@ -99,7 +99,7 @@ fn end_of_passage(from: u16, marks: &[bool], mappings: &Mappings<'_>) -> u16
     place as u16
 }
 
-// Whether the place, which has one behind it, has a mark, and the mapping behind it is in force from the start.
+// Whether the place comes before `last`, has a mark, and the mapping after it is in force from the start.
 fn leads_on(place: usize, last: usize, marks: &[bool], all: &[Mapping]) -> bool
     requires marked { last ≤ length marks.now }
     requires behind { last ≤ length all.now - 1 }
@@ -115,7 +115,7 @@ fn leads_on(place: usize, last: usize, marks: &[bool], all: &[Mapping]) -> bool
     }
 }
 
-// Passes as `pass` does, with a read of each mapping that it passes.
+// Passes as `pass` does, and logs a read of each mapping that it passes.
 fn pass_logged(
     reading: &mut Reading,
     number: u32,
@@ -137,7 +137,7 @@ fn pass_logged(
     Ok(())
 }
 
-// The place that `first_unmarked` gives, with the passages of the mappings before it.
+// The place that `first_unmarked` gives; the passages of the mappings before it are logged.
 fn log_marked(
     from: u16,
     number: u32,
@@ -169,7 +169,7 @@ fn log_marked(
     Ok(place)
 }
 
-// Puts the passage of the mappings from `start` on up to `end` at the end of the log, by an attempt that had made so many writes.
+// Adds the passage of the mappings from `start` up to, but without, `end` to the log, by an attempt that had made `made` writes.
 fn log_passage(log: &mut ReadLog, start: u16, end: u16, made: u64) -> Result<(), Memory>
     ensures logged { OnOk result (reads_in log.new.items
         ≡ reads_in log.old.items ++ passing start (end - start) made) }

@@ -1,4 +1,4 @@
-//! The writes of an attempt where copies of it share them.
+//! The writes of an attempt, if copies of it share them.
 ghost use Rattle.std.specs.Prelude.{◌≡◌, map, IfOk, OnOk};
 ghost use Rattle.base_types.specs.Contents.{changes_of};
 ghost use Rattle.base_types.specs.Listed.{Listed};
@@ -12,8 +12,8 @@ use std::alloc::Global;
 use std::marker::Model;
 use std::sync::Arc;
 
-/// The writes of an attempt as a list that copies of it share. Beside it there may be a list of the first of them, in which the
-/// attempt goes on where it makes more writes: it lacks only the last ones. Contracts see the list of all.
+/// The writes of an attempt as a list that copies of it share. There may be a second list, which lacks only the last of the
+/// writes: if the attempt makes more writes, it goes on in that list. Contracts see the list of all.
 #[derive(Debug, Drop)]
 pub(crate) struct SharedWrites {
     all: Arc<WriteList>,
@@ -47,7 +47,7 @@ impl SharedWrites {
         &self.all
     }
 
-    /// The same writes.
+    /// Another handle to the same writes.
     pub(crate) fn copy(&self) -> Result<SharedWrites, Memory>
         ensures same { IfOk result (λ copy. copy ≡ self.now) }
     {
@@ -55,7 +55,7 @@ impl SharedWrites {
         Ok(SharedWrites { all, first: None })
     }
 
-    /// The same writes, with the list of the first of them where there is one.
+    /// Another handle to the same writes, which takes over the list of the first ones, if there is one.
     pub(crate) fn branch(&mut self) -> Result<SharedWrites, Memory>
         ensures same { IfOk result (λ branch. branch ≡ self.old) }
         ensures stays { self.new ≡ self.old }
@@ -65,8 +65,8 @@ impl SharedWrites {
         Ok(SharedWrites { all, first })
     }
 
-    /// The writes as a list of which nobody else has a part: that of the first of them, if nobody else has it, with copies of
-    /// those that it lacks.
+    /// The writes as a list that nobody else shares: the list of the first ones, if nobody else shares it, with copies of the
+    /// writes that it lacks.
     pub(crate) fn alone(&mut self, alloc: Global) -> Result<WriteList, Memory>
         ensures same { IfOk result (λ writes. changes_of writes ≡ changes_of self.old) }
         ensures stays { self.new ≡ self.old }
@@ -76,7 +76,7 @@ impl SharedWrites {
         Ok(writes)
     }
 
-    /// Keeps the list of the other, which are the first of the writes, if they are fewer.
+    /// Keeps the list of `first`, which must be the first of the writes, if these are fewer.
     pub(crate) fn keep(&mut self, first: &SharedWrites) -> Result<(), Memory>
         requires first { IsPrefix (changes_of first.now) (changes_of self.old) }
         ensures stays { self.new ≡ self.old }
@@ -88,7 +88,7 @@ impl SharedWrites {
     }
 }
 
-// The list, if nobody else has it, and else an empty one.
+// The list, if nobody else shares it; otherwise an empty one.
 fn unshared(alloc: Global, first: Option<Arc<WriteList>>) -> WriteList
     ensures first { (all : Listed WriteOfProgram) →
         HasFirst first all → IsPrefix (changes_of result) (changes_of all) }
@@ -102,7 +102,7 @@ fn unshared(alloc: Global, first: Option<Arc<WriteList>>) -> WriteList
     }
 }
 
-// Puts copies of the writes that the list lacks at its end, with room for one more.
+// Adds copies of the writes that the list lacks at its end, and makes room for one more.
 fn catch_up(first: &mut WriteList, alloc: Global, all: &[Write]) -> Result<(), Memory>
     requires first { IsPrefix (changes_of first.old) (map change_of all.now) }
     ensures all { OnOk result (changes_of first.new ≡ map change_of all.now) }

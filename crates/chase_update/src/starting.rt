@@ -32,7 +32,7 @@ pub(crate) fn start(alloc: Global, operation: &Operation) -> Result<Turn, Memory
         Operation::Insert(tuple) => look_up(alloc, operation, tuple),
         Operation::Delete(tuple) => look_up(alloc, operation, tuple),
         Operation::Replace(name, _) => Ok(Turn::Asks(Reading {
-            query: Query::Occurs(name.update, name.place),
+            query: Query::Occurs(name.outer_name()),
             row: Row::Replacing(*name),
         })),
         Operation::Enact(mapping) => Ok(Turn::looks(one(
@@ -61,7 +61,7 @@ pub(crate) fn force(alloc: Global, mapping: u16) -> Result<Tuple, Memory>
     Tuple::new(alloc, FORCE_RELATION, values)
 }
 
-// Asks for the named null at place `next`, with those found before it; after the last one, whether the operation's
+// Asks for the named null at place `next`; `found` are the nulls before it. After the last one it asks whether the operation's
 // tuple is there.
 fn next_name(
     alloc: Global,
@@ -85,7 +85,7 @@ fn next_name(
                 next: next + 1,
             };
             Ok(Turn::Asks(Reading {
-                query: Query::Occurs(name.update, name.place),
+                query: Query::Occurs(name.outer_name()),
                 row: Row::Naming(boxed(alloc, naming)?),
             }))
         }
@@ -107,7 +107,7 @@ fn present(alloc: Global, operation: &Operation, found: &[ResolvedNull]) -> Resu
     }
 }
 
-// Asks whether the tuple is there, of which the operation then decides.
+// Asks whether the tuple is there. By the answer the operation decides whether to write it.
 fn asks_for(tuple: Tuple) -> Turn
     ensures tree { StandsAt (Writing (fact_of tuple)) result }
     ensures turn { IsTurnOf Start result }
@@ -118,7 +118,7 @@ fn asks_for(tuple: Tuple) -> Turn
     })
 }
 
-/// Goes on by the answer to the look-up of a named null.
+/// Goes on with the answer to the look-up of a named null.
 pub(crate) fn found_name(
     alloc: Global,
     operation: &Operation,
@@ -140,7 +140,7 @@ pub(crate) fn found_name(
     }
 }
 
-// The pairs found before, and that of the named null with the value.
+// The pairs found before, and the pair of the named null with the value.
 fn with_standing(alloc: Global, naming: &Naming, value: Value) -> Result<ResolvedNullList, Memory>
     ensures value { IfOk result (λ found.
         map resolved_of found.items ≡ found_with naming.now (datum_of value)) }

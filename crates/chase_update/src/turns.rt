@@ -1,4 +1,4 @@
-//! What a step of an operation or of a look has come to.
+//! The turns of a step of an operation or of a look.
 ghost use Rattle.std.specs.Prelude.{[]};
 ghost use Rattle.base_types.specs.Contents.{changes_of};
 ghost use Rattle.base_types.specs.Meanings.{null_of};
@@ -13,7 +13,7 @@ use crate::readings::Reading;
 use base_types::{Null, WriteList};
 use std::alloc::Global;
 
-/// What a step of an operation or of a look comes to by the answers so far: it asks a query, or it does this.
+/// The turn that a step of an operation or of a look takes after the answers so far: it asks a query, or it ends with this move.
 #[derive(Debug, Drop)]
 pub(crate) enum Turn {
     Asks(Reading),

@@ -4,7 +4,7 @@ ghost use Rattle.std.specs.Prelude.{◌≡◌, [], ◌∷◌, IfOk};
 use base_types::{List, Memory, Write, WriteList};
 use std::alloc::Global;
 
-/// The list with this write alone.
+/// The list of this one write.
 pub(crate) fn one(alloc: Global, write: Write) -> Result<WriteList, Memory>
     ensures value { IfOk result (λ writes. writes.items ≡ write ∷ []) }
 {

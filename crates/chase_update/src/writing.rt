@@ -10,8 +10,8 @@ use base_types::{Memory, Operation, Tuple, Write, WriteList};
 use chase_query::Query;
 use std::mem;
 
-/// An insertion writes the tuple that is asked about where it is not there, a deletion where it is, behind the own writes. A look
-/// comes next. If it is refused, everything is unchanged.
+/// At the end of the own writes, an insertion writes the tuple of the query if it is not there, a deletion if it is. A look comes
+/// next. If it is refused, everything is unchanged.
 pub(crate) fn write(
     operation: &Operation,
     point: &mut Point,
@@ -34,7 +34,7 @@ pub(crate) fn write(
     Ok(())
 }
 
-// The tuple that is asked about, if one is.
+// The tuple of the query, if the point has such a query.
 fn asked(point: Point) -> Option<Tuple>
     ensures { option_map fact_of result ≡ tuple_asked_at point }
 {
@@ -44,7 +44,7 @@ fn asked(point: Point) -> Option<Tuple>
     }
 }
 
-// The tuple that the query asks for, if it asks whether one is there.
+// The tuple of the query, if it asks whether a tuple is there.
 fn tuple_of(query: Query) -> Option<Tuple>
     ensures { option_map fact_of result ≡ tuple_in (query_of query) }
 {

@@ -1,4 +1,4 @@
--- What the scopes of the program mean, in the terms of the definitions of the chase.
+-- The meaning of the scopes of the program, in the terms of the definitions of the chase.
 use Rattle.std.specs.Prelude.{◌≡◌, List, [], map, Option, Some}
 use Rattle.def_chase.specs.Values.{Fact}
 use Rattle.def_chase.specs.Mappings.{Rule}
@@ -18,7 +18,7 @@ scope_of All = Every
 scope_of (ForwardScope own) = Caused Forward
 scope_of (BackwardScope own) = Caused Backward
 
--- Its own writes; none where all violations count.
+-- The own writes of the scope; none if all violations count.
 abbrev pub own_of : ScopeOfProgram → List Change
 own_of All = []
 own_of (ForwardScope own) = map change_of own.now.items
@@ -28,6 +28,6 @@ own_of (BackwardScope own) = map change_of own.now.items
 abbrev pub first_in : ScopeOfProgram → Rule → List Fact → Option (List Fact)
 first_in scope m E = first_violation (scope_of scope) (own_of scope) m E
 
--- What was found tells of each variable on the left its value.
+-- The binding found has the value of each variable on the left, as the image gives it.
 abbrev pub Binds : Rule → Matched → Type 0
 Binds m found = learn_all m.left (facts_of found.image) nothing_known ≡ Some (known_of found.binding)

@@ -16,9 +16,8 @@ use base_types::{Direction, Facts, Mapping, Memory, TupleList};
 use chase_match::{Matched, PartialMatch};
 use std::alloc::Global;
 
-/// The violation of the mapping in the facts, among those that count, whose image is least, compared tuple by tuple; None exactly
-/// where none counts. A violation is a match of the left side that no match of the right side extends; its binding has the
-/// variables of the left side.
+/// The violation that counts whose image is least, compared tuple by tuple; None exactly if none counts. A violation is a match
+/// of the left side that no match of the right side extends; its binding has the variables of the left side.
 pub fn first_violation<F: Facts>(
     alloc: Global,
     mapping: &Mapping,
@@ -35,7 +34,7 @@ pub fn first_violation<F: Facts>(
     }
 }
 
-/// The image of that violation alone.
+/// The image of the violation that `first_violation` finds.
 pub fn first_image<F: Facts>(
     alloc: Global,
     mapping: &Mapping,
@@ -51,7 +50,7 @@ pub fn first_image<F: Facts>(
     }
 }
 
-// The first violation among those that count, with the tuples and values of the facts.
+// The first violation that counts. It borrows the tuples and values of the facts.
 fn first_in_scope<'a, F: Facts>(
     alloc: Global,
     mapping: &Mapping,

@@ -1,4 +1,4 @@
-//! The first violation of a mapping in a set of tuples: of all, or of those that an update's own writes caused.
+//! The first violation of a mapping in a set of tuples: among all, or among those that an update's own writes caused.
 #![tactic(auto)]
 
 mod caused;

@@ -1,9 +1,8 @@
-//! Which violations count.
+//! The violations that count.
 use base_types::WriteList;
 
-/// Which violations of a mapping count: all of them; those that the own writes caused forward, in which the last
-/// own write of some tuple of the image is an insertion; or those that they caused backward, in which some right
-/// atom can be made equal to a tuple that an own write deletes.
+/// The violations of a mapping that count: all; or those caused forward; or those caused backward. Forward, the last own write of
+/// some tuple of the image is an insertion. Backward, some right atom can be made equal to a tuple that an own write deletes.
 #[derive(Clone, Copy, Debug)]
 pub enum Scope<'a> {
     All,

@@ -2,8 +2,7 @@
 ghost use Rattle.std.specs.List.{list_any};
 ghost use Rattle.std.specs.Prelude.{◌≡◌, false, map};
 ghost use Rattle.base_types.specs.Contents.{rules_in};
-ghost use Rattle.base_types.specs.Meanings.{change_of, datum_of, fact_of, heading_of};
-ghost use Rattle.def_chase.specs.Queries.{holds_null as holds_null_def, is_named as is_named_def};
+ghost use Rattle.base_types.specs.Meanings.{change_of, fact_of, heading_of};
 ghost use Rattle.chase_query.specs.Meanings.{query_of, read_of, reads_in, reads_of};
 ghost use Rattle.core_conflict.specs.Changes.{meets_any, meets_any_apart};
 ghost use Rattle.core_conflict.specs.Concerns.{breaks_some as breaks_some_def, concerns as concerns_def, found_none as found_none_def, is_hit, is_met as is_met_def, is_met_apart, may_violate as may_violate_def, meets as meets_def, tuple_of as tuple_of_def};
@@ -11,7 +10,7 @@ ghost use Rattle.core_conflict.specs.Trails.{trails_of};
 
 use crate::impacts::Impact;
 use crate::joins::{breaks_some, counts_all, may_decide, may_make};
-use base_types::{Direction, MappingList, Tuple, Value, Write};
+use base_types::{Direction, MappingList, Tuple, Write};
 use chase_query::{Logged, LoggedRead, Query, Reply};
 use chase_unifier::is_more_specific;
 
@@ -166,7 +165,7 @@ impl<'r> Reader<'r> {
             }
             Query::Present(_) => self.concerns(query, tuple_of(write)),
             Query::Specific(_) => self.concerns(query, tuple_of(write)),
-            Query::Occurs(_, _) => self.concerns(query, tuple_of(write)),
+            Query::Occurs(_) => self.concerns(query, tuple_of(write)),
         }
     }
 
@@ -184,7 +183,7 @@ impl<'r> Reader<'r> {
                 may_decide(mapping, self.direction, self.own, tuple)
             }
             Query::Specific(asked) => is_more_specific(asked, tuple),
-            Query::Occurs(update, place) => holds_null(tuple, *update, *place),
+            Query::Occurs(name) => tuple.holds_null(*name),
         }
     }
 }
@@ -197,7 +196,7 @@ fn found_none(read: &LoggedRead) -> bool
         Query::Violation(_) => matches!(read.answer, Reply::Nothing),
         Query::Present(_) => false,
         Query::Specific(_) => false,
-        Query::Occurs(_, _) => false,
+        Query::Occurs(_) => false,
     }
 }
 
@@ -208,27 +207,5 @@ pub(crate) fn tuple_of(write: &Write) -> &Tuple
     match write {
         Write::Insert(tuple) => tuple,
         Write::Delete(tuple) => tuple,
-    }
-}
-
-// Whether the tuple holds a null drawn by this update at this place.
-fn holds_null(tuple: &Tuple, update: u32, place: u32) -> bool
-    ensures { result ≡ holds_null_def update place (fact_of tuple.now) }
-{
-    tuple
-        .values
-        .as_slice()
-        .iter()
-        .any(|value| is_named(value, update, place))
-}
-
-// Whether the value is a null drawn by this update at this place.
-fn is_named(value: &Value, update: u32, place: u32) -> bool
-    ensures { result ≡ is_named_def update place (datum_of value.now) }
-{
-    match value {
-        Value::Null(null) => null.update == update && null.place == place,
-        Value::Int(_) => false,
-        Value::Word(_) => false,
     }
 }

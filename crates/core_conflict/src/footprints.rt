@@ -86,7 +86,7 @@ impl Footprint {
             Query::Present(tuple) => self.asking_at(asked(tuple)),
             Query::Violation(_) => self.finding(&read.answer),
             Query::Specific(tuple) => self.asking_at(asked(tuple)),
-            Query::Occurs(_, _) => self.exposed(),
+            Query::Occurs(_) => self.exposed(),
         }
     }
 

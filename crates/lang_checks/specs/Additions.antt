@@ -1,4 +1,4 @@
--- What is added to a session, as the session will have it.
+-- Additions to a session, as the session then has them.
 use Rattle.std.specs.Prelude.{[], ◌∷◌, ◌++◌, Option, Some, None}
 use Rattle.base_types.specs.declared.updates.Update.{Update}
 use Rattle.base_types.specs.declared.mappings.Mapping.{Mapping}

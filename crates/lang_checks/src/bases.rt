@@ -10,12 +10,12 @@ use set_facts::RisingFacts;
 use std::alloc::Global;
 use std::marker::Model;
 
-/// A set of tuples, put in one by one: a set for each relation, each a list as long as its own tuples come nearly in order.
-/// Contracts see the list of all tuples, in order.
+/// A set of tuples that are put in one by one. It has a set for each relation, which is a list as long as that relation's tuples
+/// come nearly in order. Contracts see the list of all tuples, in order.
 #[derive(Drop)]
 pub(crate) struct Base {
     relations: Vec<RisingFacts>,
-    // There are no more tuples. As long as it is below a limit, none have to be counted.
+    // A bound of the number of tuples. As long as it is below a limit, the tuples need not be counted.
     most: usize,
     alloc: Global,
 }
@@ -45,7 +45,7 @@ impl Base {
         }
     }
 
-    /// Whether there are so many tuples, or more.
+    /// Whether there are at least `most` tuples.
     pub(crate) fn is_full(&self, most: usize) -> bool
         ensures full { result ≡ nat_le most (length self.now) }
     {
@@ -55,7 +55,7 @@ impl Base {
         are_so_many(self.relations.as_slice(), most)
     }
 
-    /// Puts a tuple in, where it is not there yet. If it is refused, the set is unchanged.
+    /// Inserts a tuple, if it is not there yet. If it is refused, the set is unchanged.
     pub(crate) fn insert(&mut self, tuple: Tuple) -> Result<(), Memory>
         ensures ok { OnOk result (self.new ≡ change self.old (Insert (fact_of tuple))) }
         ensures err { OnErr result (self.new ≡ self.old) }
@@ -68,7 +68,7 @@ impl Base {
         Ok(())
     }
 
-    /// Whether the tuple is there. If it is refused, the set stays as it is.
+    /// Whether the tuple is there. Its tuples stay the same.
     pub(crate) fn find(&mut self, tuple: &Tuple) -> Result<bool, Memory>
         ensures answer { IfOk result (λ there. there ≡ has self.old (fact_of tuple.now)) }
         ensures same { self.new ≡ self.old }
@@ -90,7 +90,7 @@ impl Base {
     }
 }
 
-// Whether the sets together have so many tuples, or more.
+// Whether the sets together have at least `most` tuples.
 fn are_so_many(relations: &[RisingFacts], most: usize) -> bool
     ensures reached { result ≡ nat_le most (length (gathered relations.now)) }
 {
@@ -101,7 +101,7 @@ fn are_so_many(relations: &[RisingFacts], most: usize) -> bool
     left == 0
 }
 
-// Puts the tuple into the set of its relation, which is made where it is not there yet.
+// Puts the tuple into the set of its relation, which is made if it does not exist yet.
 fn put(relations: &mut Vec<RisingFacts>, alloc: Global, tuple: Tuple) -> Result<(), Memory>
     requires apart { AreApart 0 relations.old.items }
     ensures ok { OnOk result (gathered relations.new.items ≡
@@ -117,7 +117,7 @@ fn put(relations: &mut Vec<RisingFacts>, alloc: Global, tuple: Tuple) -> Result<
     Ok(())
 }
 
-// Makes the sets of the relations up to this one, where they are not there yet.
+// Makes the sets of the relations up to this one, if they do not exist yet.
 fn reach(relations: &mut Vec<RisingFacts>, alloc: Global, relation: usize) -> Result<(), Memory>
     requires apart { AreApart 0 relations.old.items }
     ensures same { gathered relations.new.items ≡ gathered relations.old.items }

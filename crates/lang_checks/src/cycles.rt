@@ -1,4 +1,4 @@
-//! The test for plain cycles: which relations lead to which, closed step by step.
+//! The test for plain cycles: a table of which relations lead to which, closed step by step.
 
 ghost use Rattle.std.specs.Prelude.{◌≡◌, ℕ, ◌<◌, ◌≤◌, ◌&&◌, ◌||◌, ◌==◌, Bool, IfOk, [], ◌∷◌, ◌++◌, map, length, suc};
 ghost use Rattle.std.specs.List.{list_any, range_with_len};
@@ -12,7 +12,7 @@ use crate::relations::RelationSet;
 use base_types::{Atom, Mapping, Memory, Term};
 use std::alloc::Global;
 
-// The term is no existential variable of a mapping with so many universal ones.
+// Whether the term is not an existential variable of a mapping with `universal` universal ones.
 fn is_plain_slot(universal: u16, term: &Term) -> bool
     ensures plain { result ≡ is_plain_slot universal (slot_of term.now) }
 {
@@ -22,7 +22,7 @@ fn is_plain_slot(universal: u16, term: &Term) -> bool
     }
 }
 
-// The atom has no existential variable.
+// Whether the atom has no existential variable.
 fn is_plain(universal: u16, atom: &Atom) -> bool
     ensures plain { result ≡ is_plain universal (pattern_of atom.now) }
 {
@@ -32,7 +32,7 @@ fn is_plain(universal: u16, atom: &Atom) -> bool
         .all(|term| is_plain_slot(universal, term))
 }
 
-// An atom of the relation stands on the left of the mapping.
+// Whether an atom of the relation stands on the left of the mapping.
 fn stands_left(relation: u16, mapping: &Mapping) -> bool
     ensures stands { result ≡ stands_left relation (rule_of mapping.now) }
 {
@@ -43,7 +43,7 @@ fn stands_left(relation: u16, mapping: &Mapping) -> bool
         .any(|atom| atom.relation == relation)
 }
 
-// The set, with the atom's relation where the atom is plain.
+// The set, with the atom's relation if the atom is plain.
 fn with_plain(set: RelationSet, universal: u16, atom: &Atom) -> RelationSet
     ensures with { (s : ℕ) → s < 128 → among result s ≡
         (among set s || ((atom.now.relation == s) && is_plain universal (pattern_of atom.now))) }
@@ -77,7 +77,7 @@ fn led_by(set: RelationSet, relation: u16, mapping: &Mapping) -> RelationSet
     set
 }
 
-// The relations to which the relation leads by the mappings and the last one.
+// The relations to which the relation leads by the mappings and `last`.
 fn led_to(relation: u16, mappings: &[Mapping], last: &Mapping) -> RelationSet
     ensures led { (s : ℕ) → s < 128 → among result s ≡
         leads (map rule_of mappings.now ++ rule_of last.now ∷ []) relation s }
@@ -89,7 +89,7 @@ fn led_to(relation: u16, mappings: &[Mapping], last: &Mapping) -> RelationSet
     led_by(found, relation, last)
 }
 
-// What each of the relations leads to.
+// The table of the relations to which each relation leads.
 fn table_of(
     alloc: Global,
     relations: u16,
@@ -107,7 +107,7 @@ fn table_of(
     Ok(rows)
 }
 
-// A row, with what the relation `between` leads to where the row has that relation.
+// The row, together with `middle`, the relations to which `between` leads, if the row has `between`.
 fn widened(middle: RelationSet, between: u16, row: RelationSet) -> RelationSet
     requires { between < 128 }
     ensures widened { result ≡ widened middle between row }
@@ -132,7 +132,7 @@ fn widen(rows: &mut [RelationSet], between: u16)
     }
 }
 
-// Some relation is in its own row.
+// Whether some relation is in its own row.
 fn goes_round(rows: &[RelationSet]) -> bool
     requires { length rows.now ≤ 128 }
     ensures round { (edge : ℕ → ℕ → Bool) → IsTableOf edge rows.now →
@@ -146,8 +146,7 @@ fn goes_round(rows: &[RelationSet]) -> bool
     false
 }
 
-/// Whether the mappings, over so many relations, have a plain cycle with the last one. It takes some
-/// kilobytes of memory.
+/// Whether the mappings over `relations` relations have a plain cycle together with `last`. It takes some kilobytes of memory.
 pub(crate) fn has_plain_cycle(
     alloc: Global,
     relations: u16,

@@ -50,7 +50,7 @@ impl Model for Draft {
 }
 
 impl Draft {
-    /// What the header of a format leaves.
+    /// The session after the header of a format.
     pub fn new(alloc: Global, format: u8) -> Draft
         ensures empty { result ≡ empty_session format }
     {
@@ -96,9 +96,8 @@ impl Draft {
         }
     }
 
-    /// Takes one more statement, in the place where it may stand. A header begins the session anew. It is
-    /// refused with the first fault of its checks, and where there is not enough memory; nothing has then
-    /// changed.
+    /// Takes one more statement, which must stand in its section. A header begins the session again. It is refused with the first
+    /// fault of its checks; then nothing has changed.
     pub fn take(&mut self, alloc: Global, statement: RawStatement) -> Result<(), TakeRefusal>
         ensures taken { Gives (λ _. self.new) result (taken self.old (statement_of statement)) }
         ensures err { OnErr result (self.new ≡ self.old) }

@@ -16,7 +16,7 @@ use lang_forms::{RawChoice, RawFact, RawFactList};
 use lang_schema::Schema;
 use std::alloc::Global;
 
-// The null comes from an update up to the given one.
+// Checks that the null comes from an update up to number `most`.
 #[tactic(auto, unfolding(def_language::specs::Meaning::nulls_within))]
 fn null_within(most: u32, null: Null) -> Result<(), TakeRefusal>
     ensures { Gives (λ u. u) result (nulls_within most (Unknown (null_of null) ∷ [])) }
@@ -30,8 +30,8 @@ fn null_within(most: u32, null: Null) -> Result<(), TakeRefusal>
     Ok(())
 }
 
-/// The nulls among values come from updates up to the given one. They are refused with the first from the
-/// left that does not.
+/// Checks that the nulls among values come from updates up to number `most`. A refusal names the first from the left that does
+/// not.
 #[tactic(auto, unfolding(def_language::specs::Meaning::nulls_within))]
 pub(crate) fn nulls_within(most: u32, values: &[Value]) -> Result<(), TakeRefusal>
     ensures { Gives (λ u. u) result (nulls_within most (map datum_of values.now)) }
@@ -53,7 +53,7 @@ pub(crate) fn nulls_within(most: u32, values: &[Value]) -> Result<(), TakeRefusa
     Ok(())
 }
 
-/// The null of a replacement, and then its value if that is one, come from updates up to the given one.
+/// Checks that the null of a replacement, and its value if that is a null, come from updates up to number `most`.
 #[tactic(auto, unfolding(def_language::specs::Meaning::nulls_within))]
 pub(crate) fn replaced_within(most: u32, null: Null, value: &Value) -> Result<(), TakeRefusal>
     ensures { Gives (λ u. u) result (nulls_within most
@@ -67,7 +67,7 @@ pub(crate) fn replaced_within(most: u32, null: Null, value: &Value) -> Result<()
     }
 }
 
-/// The tuple of a fact whose nulls come from updates up to the given one.
+/// The tuple of a fact. Its nulls must come from updates up to number `most`.
 #[tactic(auto, unfolding(def_language::specs::Meaning::bounded_fact, def_language::specs::Meaning::fact_of))]
 pub(crate) fn bounded_fact(
     alloc: Global,
@@ -103,7 +103,7 @@ fn bounded_facts(
     Ok(found)
 }
 
-/// An answer to a question of the given update: the nulls of its facts come from updates up to that one.
+/// An answer to a question of update `most`. The nulls of its facts must come from updates up to that one.
 #[tactic(auto, unfolding(def_language::specs::Checks::choice_of))]
 pub(crate) fn choice_of(
     alloc: Global,

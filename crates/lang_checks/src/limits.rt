@@ -32,7 +32,7 @@ pub(crate) fn most_answers(format: u8) -> u32
     if format == 2 { 20000 } else { 10000 }
 }
 
-/// The number of columns, if it is one of 1 to 8.
+/// The number of columns, if it is from 1 to 8.
 pub(crate) fn arity_of(columns: i64) -> Option<u16>
     ensures arity { MatchOption result (is_arity columns ≡ false)
         (λ a. (is_arity columns ≡ true) × (a ≡ natural columns)) }
@@ -43,7 +43,7 @@ pub(crate) fn arity_of(columns: i64) -> Option<u16>
     None
 }
 
-/// A relation has the name.
+/// Whether a relation has the name.
 pub(crate) fn has_relation(schema: &Schema, name: &Name) -> bool
     ensures one { result ≡ is_one_of (relation_names schema.now) name.now.items }
 {

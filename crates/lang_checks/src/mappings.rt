@@ -1,4 +1,4 @@
-//! What a new mapping is checked for beside those that are there.
+//! The checks of a new mapping against the mappings that are there.
 
 ghost use Rattle.std.specs.Prelude.{◌≡◌, length, map};
 ghost use Rattle.def_language.specs.Checks.{mappings_full};
@@ -16,7 +16,7 @@ use lang_forms::RawMapping;
 use lang_schema::{RawAtoms, Schema, check_added_mapping};
 use std::alloc::Global;
 
-/// A mapping has the name. There are at most 64.
+/// Whether a mapping has the name. There are at most 64 mappings.
 pub(crate) fn has_mapping(mappings: &[Mapping], name: &Name) -> bool
     ensures one { result ≡ is_one_of (mapping_names
         (map session_mapping_of mappings.now)) name.now.items }
@@ -24,21 +24,21 @@ pub(crate) fn has_mapping(mappings: &[Mapping], name: &Name) -> bool
     mappings.iter().any(|mapping| *name == mapping.name)
 }
 
-// How many of the mappings are added by updates.
+// The number of the mappings that updates add.
 fn added(mappings: &[Mapping]) -> usize
     ensures count { result ≡ length (added_mappings (map session_mapping_of mappings.now)) }
 {
     mappings.iter().filter(|mapping| mapping.since != 0).count()
 }
 
-/// There is no room for one more mapping, added by the given update or there from the start.
+/// Whether there is no room for one more mapping, which update `since` adds or, if `since` is 0, is there from the start.
 pub(crate) fn mappings_full(mappings: &[Mapping], since: u32) -> bool
     ensures full { result ≡ mappings_full (map session_mapping_of mappings.now) since }
 {
     MOST_MAPPINGS <= mappings.len() || since != 0 && MOST_ADDED_MAPPINGS <= added(mappings)
 }
 
-/// A mapping over the relations, put in force by the given update or there from the start.
+/// A mapping over the relations, which update `since` puts in force or, if `since` is 0, is there from the start.
 pub(crate) fn mapping_of(
     alloc: Global,
     schema: &Schema,

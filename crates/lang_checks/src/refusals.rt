@@ -12,14 +12,14 @@ use std::alloc::AllocError;
 /// Why a statement is not taken.
 #[derive(Debug, Drop)]
 pub enum TakeRefusal {
-    /// A name is taken, a limit is reached, or a fact or a mapping does not go with the relations; or
-    /// there was not enough memory, `SchemaRefusal::Memory`.
+    /// A name is taken, a limit is reached, or a fact or a mapping does not fit the relations; or there was not enough memory,
+    /// `SchemaRefusal::Memory`.
     Schema(SchemaRefusal),
     /// With the mapping of this name the mappings have a plain cycle.
     PlainCycle(Name),
     /// No update has this label.
     UnknownLabel(Name),
-    /// A null comes from an update, this one, that is not below.
+    /// A null comes from this update, which is not below the present one.
     NullNotBelow { update: u32, place: u32 },
 }
 
@@ -47,7 +47,7 @@ impl From<AllocError> for TakeRefusal {
     }
 }
 
-/// A call that hands its argument back beside `Memory`, where the caller has no more use for it.
+/// The refusal of a call that hands its argument back with `Memory`, if the caller has no more use for the argument.
 impl<T: Drop> From<(T, Memory)> for TakeRefusal {
     ghost from_gives = { λ _ refusal. refusal ≡ Schema WantOfMemory };
 
@@ -56,7 +56,7 @@ impl<T: Drop> From<(T, Memory)> for TakeRefusal {
     }
 }
 
-/// The limit is reached.
+/// The refusal for a limit that is reached.
 pub(crate) fn limit(which: Which) -> TakeRefusal
     ensures { result ≡ Schema (Limit which) }
 {

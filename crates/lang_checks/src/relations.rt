@@ -26,7 +26,7 @@ impl RelationSet {
         (self.bits >> relation) & 1 == 1
     }
 
-    /// The set with one more relation. A number from 128 on is that of none.
+    /// The set with one more relation. A number from 128 on adds no relation.
     pub(crate) fn with(self, relation: u16) -> RelationSet
         ensures with { (r : ℕ) → r < 128 → among result r ≡ (among self r || relation == r) }
     {

@@ -51,14 +51,14 @@ impl Updates {
         }
     }
 
-    /// How many updates there are.
+    /// The number of updates.
     pub(crate) fn len(&self) -> u32
         ensures length { result ≡ length self.now }
     {
         self.updates.len() as u32
     }
 
-    /// The place of the update of a label, counted from 0; None exactly where there is none.
+    /// The place of the update with this label, counted from 0; None exactly if there is none.
     pub(crate) fn find(&self, label: &Name) -> Option<u32>
         ensures place { IfSome result (λ place. place ≡
             place_of (labels self.now) label.now.items) }
@@ -79,21 +79,21 @@ impl Updates {
         self.label_names.has(label)
     }
 
-    /// There is no room for one more curator, if this is one.
+    /// Whether this is a further curator and there is no room for one.
     pub(crate) fn curators_full(&self, curator: &Name) -> bool
         ensures full { result ≡ curators_full self.now curator.now.items }
     {
         !self.curator_names.has(curator) && MOST_CURATORS <= self.curator_names.len()
     }
 
-    /// The answers of all updates.
+    /// The number of answers of all updates.
     pub(crate) fn answer_count(&self) -> u32
         ensures count { result ≡ answer_count self.now }
     {
         self.answers
     }
 
-    /// Adds an update without answers at the end. If it is refused, nothing has changed.
+    /// Adds an update without answers at the end. If it is refused, nothing changes.
     pub(crate) fn add(&mut self, alloc: Global, update: Update) -> Result<(), Memory>
         requires fresh { is_one_of (labels self.old) update.label.items ≡ false }
         requires room { length self.old < 1000 }
@@ -121,7 +121,7 @@ impl Updates {
         Ok(())
     }
 
-    /// Adds an answer to the update at a place. If it is refused, nothing has changed.
+    /// Adds an answer to the update at a place. If it is refused, nothing changes.
     pub(crate) fn answer(&mut self, place: u32, choice: Choice) -> Result<(), Memory>
         requires there { place < length self.old }
         requires room { answer_count self.old < 20000 }
@@ -143,7 +143,7 @@ impl Updates {
     }
 }
 
-// Notes the label and the curator of the update. If it is refused, nothing has changed.
+// Notes the label and the curator of the update. If it is refused, nothing changes.
 fn note(
     alloc: Global,
     labels: &mut Names,

@@ -1,4 +1,4 @@
--- What the statements of the program stand for.
+-- The meanings of the statements of the program.
 use Rattle.std.specs.Prelude.{map}
 use Rattle.base_types.specs.Meanings.{datum_of, null_of}
 use Rattle.def_language.specs.Statements.{WrittenOperation, InsertFact, DeleteFact, ReplaceNull, AddMapping, WrittenChoice, ExpandFact, UnifyFact, DeleteFacts, Statement}

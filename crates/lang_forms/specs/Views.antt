@@ -1,4 +1,4 @@
--- What the words of the program say, and what reading them answers beside what is read by definition.
+-- The meanings of the words of the program, and the answers of reading them, compared with those of the definitions.
 use Rattle.std.specs.Prelude.{◌≡◌, ℕ, List, [], map, Result, Ok, Err}
 use Rattle.def_language.specs.declared.tokens.Token.{Token}
 use Rattle.def_language.specs.declared.tokens.LexRefusal.{LexRefusal}
@@ -22,11 +22,11 @@ use Rattle.lang_forms.specs.declared.faults.FormRefusal.TheVariants as refusal
 abbrev pub says : Quoted → List ℕ
 says q = text_of q.spelling.now
 
--- what a `Word` says
+-- the word that a `Word` stands for
 abbrev pub word_of : Word → WordMeant
 word_of (Name n) = name n.now
 word_of (Number z) = number z
-word_of (Null u k) = null u k
+word_of (Null n) = null n.update n.place
 word_of (Text t) = text (says t)
 word_of Open = opens
 word_of Close = closes
@@ -34,7 +34,7 @@ word_of Comma = comma
 word_of Colon = colon
 word_of Arrow = arrow
 
--- the tokens that are found, if any
+-- the tokens found; none after a fault
 abbrev pub found : Result (List Token) LexRefusal → List Token
 found (Ok tokens) = tokens
 found (Err refusal) = []
@@ -55,13 +55,13 @@ fact_of f = record { relation = f.relation.items; values = map datum_of f.values
 abbrev pub mapping_of : RawMapping → WrittenMapping
 mapping_of m = record { name = m.name.items; left = map atom_of m.left.items; right = map atom_of m.right.items }
 
--- a refusal is the fault that is read; want of memory may come in place of any answer
+-- a refusal is the fault that the definition gives; want of memory may come in place of any answer
 abbrev pub Refuses : {Y : Type 0} → FormRefusal → Result Y Kind → Type 0
 Refuses refusal.BadHeader read = read ≡ Err BadHeader
 Refuses (refusal.Expected wanted) read = read ≡ Err (Expected wanted)
 Refuses refusal.Memory read = Unit {0}
 
--- an answer, seen by `view`, is what is read
+-- an answer, seen by `view`, is the one that the definition gives
 abbrev pub Gives : {X Y : Type 0} → (X → Y) → Result X FormRefusal → Result Y Kind → Type 0
 Gives view (Ok x) read = read ≡ Ok (view x)
 Gives view (Err e) read = Refuses e read

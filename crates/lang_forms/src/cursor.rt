@@ -6,7 +6,7 @@ ghost use Rattle.def_language.specs.LineTokens.{is_faultless};
 use crate::words::Word;
 use lang_lex::{LexRefusal, line_fault, next_token};
 
-/// The words of a line that are still to be read, from a place on. They take no memory of their own.
+/// The words of a line that are still to be read, from a place on.
 #[derive(Clone, Copy)]
 pub struct Words<'a> {
     line: &'a [u8],
@@ -21,8 +21,7 @@ impl<'a> Words<'a> {
     ghost use Rattle.def_language.specs.Words.{words_at};
     ghost use Rattle.def_language.specs.LexAnswers.{place_in};
 
-    /// All words of a line. A line with a lexical fault has none, and is refused with its leftmost one,
-    /// which stands in the line or at its end.
+    /// All words of a line. A line with a lexical fault is refused with its leftmost one, which stands in the line or at its end.
     pub fn of(line: &'a [u8]) -> Result<Words<'a>, LexRefusal>
         ensures all { IfOk result (λ words. words_at line.now ≡ Ok (words_of words)) }
         ensures fault { IfErr result (λ refusal. words_at line.now ≡ Err refusal) }
@@ -32,7 +31,7 @@ impl<'a> Words<'a> {
         Ok(Words { line, place: 0 })
     }
 
-    /// The first word, and those behind it; nothing where none is left.
+    /// The first word, and the words after it; None if none is left.
     pub fn split_first(self) -> Option<(Word<'a>, Words<'a>)>
         ensures { MatchOption result (words_of self.entry ≡ [])
             (λ x. words_of self.entry ≡ word_of x.0 ∷ words_of x.1) }

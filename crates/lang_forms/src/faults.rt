@@ -10,7 +10,7 @@ use std::alloc::{AllocError, AllocFailed};
 /// Why words have no form.
 #[derive(Clone, Copy, Debug, PartialEq, Eq)]
 pub enum FormRefusal {
-    /// The line is the first, and is none of the headers.
+    /// The line is the first one, and is not a header.
     BadHeader,
     /// This is missing at the first word that does not fit.
     Expected(Wanted),
@@ -50,7 +50,7 @@ impl<T: Drop> From<(T, Memory)> for FormRefusal {
     }
 }
 
-/// This is missing.
+/// The refusal for this missing part.
 pub(crate) fn wants(wanted: Wanted) -> FormRefusal
     ensures { result ≡ Expected wanted }
 {

@@ -1,5 +1,5 @@
-//! The forms of statements: what the words of a line say, read from the left, or what is wanted at the
-//! first word that does not fit.
+//! The forms of statements: the statement that the words of a line make, read from the left, or what is missing at the first word
+//! that does not fit.
 #![tactic(auto)]
 
 mod cursor;

@@ -15,7 +15,7 @@ use def_language::Wanted;
 use lang_schema::{RawAtom, RawAtomList};
 use std::alloc::Global;
 
-// An atom of the left side, whether a comma stands behind it, and what stands behind that or the arrow.
+// An atom of the left side, whether a comma follows it, and the words after the comma or the arrow.
 #[tactic(auto, unfolding(def_language::specs::Parts::left_atom))]
 fn left_atom(alloc: Global, words: Words<'_>) -> Result<(RawAtom, bool, Words<'_>), FormRefusal>
     ensures gives { Gives (λ x. (atom_meant x.0, x.1, words_of x.2)) result
@@ -30,7 +30,7 @@ fn left_atom(alloc: Global, words: Words<'_>) -> Result<(RawAtom, bool, Words<'_
     }
 }
 
-// An atom of the right side, whether a comma stands behind it, and what stands behind that.
+// An atom of the right side, whether a comma follows it, and the words after the comma.
 #[tactic(auto, unfolding(def_language::specs::Parts::right_atom))]
 fn right_atom(alloc: Global, words: Words<'_>) -> Result<(RawAtom, bool, Words<'_>), FormRefusal>
     ensures gives { Gives (λ x. (atom_meant x.0, x.1, words_of x.2)) result
@@ -45,7 +45,7 @@ fn right_atom(alloc: Global, words: Words<'_>) -> Result<(RawAtom, bool, Words<'
     }
 }
 
-// A fact of an answer, likewise.
+// A fact of an answer, whether a comma follows it, and the words after the comma.
 #[tactic(auto, unfolding(def_language::specs::Parts::last_fact))]
 fn last_fact(alloc: Global, words: Words<'_>) -> Result<(RawFact, bool, Words<'_>), FormRefusal>
     ensures gives { Gives (λ x. (fact_meant x.0, x.1, words_of x.2)) result
@@ -111,7 +111,7 @@ fn last_facts(alloc: Global, words: Words<'_>) -> Result<(RawFactList, Words<'_>
     }
 }
 
-// The atoms of the left side, and what stands behind the arrow.
+// The atoms of the left side, and the words after the arrow.
 #[tactic(auto, unfolding(def_language::specs::Parts::left_at))]
 fn left_at(alloc: Global, words: Words<'_>) -> Result<(RawAtomList, Words<'_>), FormRefusal>
     ensures gives { Gives (λ x. (map atom_meant x.0.items, words_of x.1)) result
@@ -139,7 +139,7 @@ pub fn right_at(alloc: Global, words: Words<'_>) -> Result<RawAtomList, FormRefu
     }
 }
 
-/// A mapping behind the word `mapping`, to the end of the line.
+/// A mapping after the word `mapping`, to the end of the line.
 #[tactic(auto, unfolding(def_language::specs::Parts::mapping_at))]
 pub(crate) fn mapping_at(alloc: Global, words: Words<'_>) -> Result<RawMapping, FormRefusal>
     ensures gives { Gives mapping_meant result (mapping_at (words_of words.entry)) }

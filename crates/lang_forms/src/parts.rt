@@ -11,19 +11,19 @@ ghost use Rattle.lang_forms.specs.Views.{Gives, fact_of as fact_meant, word_of, 
 use crate::cursor::Words;
 use crate::faults::{FormRefusal, wants};
 use crate::words::{RawFact, Word};
-use base_types::{List, Memory, Name, Null, Value, ValueList};
+use base_types::{List, Memory, Name, Value, ValueList};
 use def_language::Wanted;
 use lang_schema::{RawAtom, RawTerm, RawTermList};
 use std::alloc::Global;
 
-// The bytes as a name of their own.
+// A copy of the bytes as a name.
 fn copied(alloc: Global, bytes: &[u8]) -> Result<Name, Memory>
     ensures { IfOk result (λ name. name.items ≡ bytes.now) }
 {
     Ok(List::from_vec(Vec::from_slice(alloc, bytes)?))
 }
 
-/// A name, and what stands behind it.
+/// A name, and the words after it.
 #[tactic(auto, unfolding(def_language::specs::Parts::name_at))]
 pub fn name_at(alloc: Global, words: Words<'_>) -> Result<(Name, Words<'_>), FormRefusal>
     ensures gives { Gives (λ x. (x.0.items, words_of x.1)) result (name_at (words_of words.entry)) }
@@ -35,7 +35,7 @@ pub fn name_at(alloc: Global, words: Words<'_>) -> Result<(Name, Words<'_>), For
     }
 }
 
-/// What stands behind `(`.
+/// The words after `(`, which must come first.
 #[tactic(auto, unfolding(def_language::specs::Parts::open_at))]
 pub fn open_at(words: Words<'_>) -> Result<Words<'_>, FormRefusal>
     ensures gives { Gives (λ x. words_of x) result (open_at (words_of words.entry)) }
@@ -47,7 +47,7 @@ pub fn open_at(words: Words<'_>) -> Result<Words<'_>, FormRefusal>
     }
 }
 
-/// What stands behind `:`.
+/// The words after `:`, which must come first.
 #[tactic(auto, unfolding(def_language::specs::Parts::colon_at))]
 pub fn colon_at(words: Words<'_>) -> Result<Words<'_>, FormRefusal>
     ensures gives { Gives (λ x. words_of x) result (colon_at (words_of words.entry)) }
@@ -59,7 +59,7 @@ pub fn colon_at(words: Words<'_>) -> Result<Words<'_>, FormRefusal>
     }
 }
 
-/// Nothing stands there.
+/// Checks that no word is left.
 #[tactic(auto, unfolding(def_language::specs::Parts::end_at))]
 pub(crate) fn end_at(words: Words<'_>) -> Result<(), FormRefusal>
     ensures gives { Gives (λ u. u) result (end_at (words_of words.entry)) }
@@ -70,23 +70,19 @@ pub(crate) fn end_at(words: Words<'_>) -> Result<(), FormRefusal>
     }
 }
 
-/// A value.
+/// The value that the word says.
 pub(crate) fn value_of(alloc: Global, word: Word<'_>) -> Result<Value, FormRefusal>
     ensures gives { Gives datum_of result (value_of (word_of word.entry)) }
 {
     match word {
         Word::Number(number) => Ok(Value::Int(number)),
         Word::Text(text) => Ok(Value::Word(text.says(alloc)?)),
-        Word::Null(update, place) => Ok(Value::Null(Null {
-            update,
-            attempt: 0,
-            place,
-        })),
+        Word::Null(name) => Ok(Value::Null(name.null())),
         _ => Err(wants(Wanted::Value)),
     }
 }
 
-// A term.
+// The term that the word says.
 fn term_of(alloc: Global, word: Word<'_>) -> Result<RawTerm, FormRefusal>
     ensures gives { Gives term_meant result (term_of (word_of word.entry)) }
 {
@@ -98,7 +94,7 @@ fn term_of(alloc: Global, word: Word<'_>) -> Result<RawTerm, FormRefusal>
     }
 }
 
-// A value, whether a comma stands behind it, and what stands behind that or behind the parenthesis.
+// A value, whether a comma follows it, and the words after the comma or the parenthesis.
 #[tactic(auto, unfolding(def_language::specs::Parts::item_at))]
 fn value_at(alloc: Global, words: Words<'_>) -> Result<(Value, bool, Words<'_>), FormRefusal>
     ensures gives { Gives (λ x. (datum_of x.0, x.1, words_of x.2)) result
@@ -116,7 +112,7 @@ fn value_at(alloc: Global, words: Words<'_>) -> Result<(Value, bool, Words<'_>),
     }
 }
 
-// A term, likewise.
+// A term, whether a comma follows it, and the words after the comma or the parenthesis.
 #[tactic(auto, unfolding(def_language::specs::Parts::item_at))]
 fn term_at(alloc: Global, words: Words<'_>) -> Result<(RawTerm, bool, Words<'_>), FormRefusal>
     ensures gives { Gives (λ x. (term_meant x.0, x.1, words_of x.2)) result
@@ -170,7 +166,7 @@ fn terms_at(alloc: Global, words: Words<'_>) -> Result<(RawTermList, Words<'_>),
     }
 }
 
-/// A fact, and what stands behind it.
+/// A fact, and the words after it.
 #[tactic(auto, unfolding(def_language::specs::Parts::fact_at, def_language::specs::Parts::items_at))]
 pub(crate) fn fact_at(alloc: Global, words: Words<'_>) -> Result<(RawFact, Words<'_>), FormRefusal>
     ensures gives { Gives (λ x. (fact_meant x.0, words_of x.1)) result
@@ -183,7 +179,7 @@ pub(crate) fn fact_at(alloc: Global, words: Words<'_>) -> Result<(RawFact, Words
     Ok((RawFact { relation, values }, behind))
 }
 
-/// An atom, and what stands behind it.
+/// An atom, and the words after it.
 #[tactic(auto, unfolding(def_language::specs::Parts::atom_at, def_language::specs::Parts::items_at))]
 pub(crate) fn atom_at(alloc: Global, words: Words<'_>) -> Result<(RawAtom, Words<'_>), FormRefusal>
     ensures gives { Gives (λ x. (atom_meant x.0, words_of x.1)) result

@@ -3,7 +3,7 @@
 use crate::words::{RawFact, RawFactList, RawMapping};
 use base_types::{Name, Null, Value};
 
-/// What an update does.
+/// The operation of an update.
 #[derive(Debug, Drop)]
 pub enum RawOperation {
     Insert(RawFact),
@@ -12,7 +12,7 @@ pub enum RawOperation {
     Enact(RawMapping),
 }
 
-/// What an answer says.
+/// The choice of an answer.
 #[derive(Debug, Drop)]
 pub enum RawChoice {
     Expand,

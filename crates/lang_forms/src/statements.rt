@@ -1,4 +1,4 @@
-//! Whole statements, read from the left, where they may stand.
+//! Whole statements, read from the left, each in its section.
 
 ghost use Rattle.std.specs.Prelude.{◌≡◌, MatchOption, true, false};
 ghost use Rattle.base_types.specs.Meanings.{null_of};
@@ -61,7 +61,7 @@ fn header_at(words: Words<'_>) -> Result<RawStatement, FormRefusal>
     }
 }
 
-// A relation behind its name.
+// The rest of a relation after its name.
 fn columns_at(name: Name, words: Words<'_>) -> Result<RawStatement, FormRefusal>
     ensures { Gives statement_of result (columns_at name.items (words_of words.entry)) }
 {
@@ -82,8 +82,7 @@ fn relation_at(alloc: Global, words: Words<'_>) -> Result<RawStatement, FormRefu
     columns_at(name, rest)
 }
 
-/// A fact to the end of the line. It is refused with what is wanted at the first word that does not
-/// fit.
+/// A fact to the end of the line. A refusal says what is missing at the first word that does not fit.
 #[tactic(auto, unfolding(def_language::specs::Parts::whole))]
 pub fn whole_fact(alloc: Global, words: Words<'_>) -> Result<RawFact, FormRefusal>
     ensures exact { Gives fact_meant result (whole (fact_at (words_of words.entry))) }
@@ -120,15 +119,10 @@ fn with_at(alloc: Global, null: Null, words: Words<'_>) -> Result<RawOperation, 
 fn replace_at(alloc: Global, words: Words<'_>) -> Result<RawOperation, FormRefusal>
     ensures { Gives operation_of result (replace_at (words_of words.entry)) }
 {
-    let Some((Word::Null(update, place), rest)) = words.split_first() else {
+    let Some((Word::Null(name), rest)) = words.split_first() else {
         return Err(wants(Wanted::Null));
     };
-    let null = Null {
-        update,
-        attempt: 0,
-        place,
-    };
-    with_at(alloc, null, rest)
+    with_at(alloc, name.null(), rest)
 }
 
 #[tactic(auto, unfolding(def_language::specs::Forms::operation_at))]
@@ -163,7 +157,7 @@ fn update_at(alloc: Global, format: u8, words: Words<'_>) -> Result<RawStatement
     Ok(RawStatement::Update(label, curator, operation))
 }
 
-/// The choice that the words are, as they may follow the label of an answer.
+/// The choice of an answer, from the words after its label.
 #[tactic(auto, unfolding(def_language::specs::Forms::choice_at))]
 pub fn choice_at(alloc: Global, words: Words<'_>) -> Result<RawChoice, FormRefusal>
     ensures { Gives choice_of result (choice_at (words_of words.entry)) }
@@ -206,7 +200,7 @@ fn rank(section: Section) -> u8
     }
 }
 
-// The first word is that of a statement whose section is not over.
+// Whether the first word is the name of a statement whose section is not over.
 fn begins(section: Section, name: &[u8], word: &[u8], own: Section) -> bool
     ensures { result ≡ begins (section_meant section) name.now word.now (section_meant own) }
 {
@@ -247,9 +241,8 @@ fn named_at(
     Err(wants(Wanted::Statement))
 }
 
-/// The statement of a line that is not blank, in a section of a session of a format; or the header,
-/// where no statement has been. It is refused with what is wanted at the first word that does not fit,
-/// or where the first line is no header.
+/// The statement of a line that is not blank, in a section of a session of a format; or the header, if it is the first statement.
+/// A refusal says what is missing at the first word that does not fit, or that the first line is no header.
 #[tactic(auto, unfolding(def_language::specs::Forms::statement_at))]
 pub fn statement_at(
     alloc: Global,

@@ -1,10 +1,10 @@
-//! What the tokens of a line say, and the facts and mappings that words make.
+//! The words that tokens say, and the facts and mappings that words make.
 
 ghost use Rattle.std.specs.Prelude.{◌≡◌, true};
 ghost use Rattle.def_language.specs.Spelling.{spells, text_of};
 ghost use Rattle.def_language.specs.declared.tokens.TokenKind.TheVariants.{Text};
 
-use base_types::{List, Memory, Name, ValueList};
+use base_types::{List, Memory, Name, OuterName, ValueList};
 use lang_lex::{TokenKind, null_of, number_of, text_of};
 use lang_schema::RawAtomList;
 use std::alloc::Global;
@@ -16,13 +16,13 @@ pub struct Quoted<'a> {
     ghost spelled: { spells Text spelling.now ≡ true },
 }
 
-/// What a token says: a name, the number, the update and the place of a null, a text, or a sign. Names
-/// and texts are borrowed from the line.
+/// The word that a token says: a name, a number, the name of a null, a text, or a sign. Names and texts are borrowed from the
+/// line.
 #[derive(Clone, Copy)]
 pub enum Word<'a> {
     Name(&'a [u8]),
     Number(i64),
-    Null(u32, u32),
+    Null(OuterName),
     Text(Quoted<'a>),
     Open,
     Close,
@@ -65,7 +65,7 @@ impl<'a> Word<'a> {
     ghost use Rattle.lang_forms.specs.Views.{word_of};
     ghost use Rattle.def_language.specs.Words.{said};
 
-    /// What a token of the kind says, spelled so.
+    /// The word that a token of this kind and spelling says.
     pub(crate) fn of(kind: TokenKind, spelling: &'a [u8]) -> Word<'a>
         requires { spells kind spelling.now ≡ true }
         ensures { word_of result ≡ said kind spelling.now }
@@ -73,10 +73,7 @@ impl<'a> Word<'a> {
         match kind {
             TokenKind::Name => Word::Name(spelling),
             TokenKind::Number => Word::Number(number_of(spelling)),
-            TokenKind::Null => {
-                let (update, place) = null_of(spelling);
-                Word::Null(update, place)
-            }
+            TokenKind::Null => Word::Null(null_of(spelling)),
             TokenKind::Text => Word::Text(Quoted { spelling }),
             TokenKind::Open => Word::Open,
             TokenKind::Close => Word::Close,

@@ -1,4 +1,4 @@
-//! The kinds of bytes, and how many of a kind stand at the front.
+//! The kinds of bytes, and the number of bytes of a kind at the front.
 
 ghost use Rattle.std.specs.Prelude.{◌≡◌, ◌≤◌, drop, length};
 ghost use Rattle.def_language.specs.Bytes.{begins_name, continues_name, is_blank, is_digit, run};
@@ -17,7 +17,7 @@ pub(crate) fn is_digit(byte: u8) -> bool
     b'0' <= byte && byte <= b'9'
 }
 
-/// Whether the byte may stand in a name behind its first byte.
+/// Whether the byte may stand in a name after its first byte.
 pub(crate) fn continues_name(byte: u8) -> bool
     ensures { result ≡ continues_name byte }
 {
@@ -31,7 +31,7 @@ pub(crate) fn is_blank(byte: u8) -> bool
     byte == b' ' || byte == b'\t' || byte == b'\r'
 }
 
-/// How many bytes at the front continue a name.
+/// The number of bytes at the front that continue a name.
 pub(crate) fn name_run(bytes: &[u8]) -> usize
     ensures run { result ≡ run continues_name bytes.now }
     ensures within { result ≤ length bytes.now }
@@ -42,7 +42,7 @@ pub(crate) fn name_run(bytes: &[u8]) -> usize
         .count()
 }
 
-/// How many bytes at the front are digits.
+/// The number of digits at the front.
 pub(crate) fn digit_run(bytes: &[u8]) -> usize
     ensures run { result ≡ run is_digit bytes.now }
     ensures within { result ≤ length bytes.now }

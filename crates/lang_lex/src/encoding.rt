@@ -5,8 +5,8 @@ ghost use Rattle.std.specs.Str.{IsValidUpTo};
 
 use std::str;
 
-/// The place where the bytes stop being UTF-8: the length of their longest prefix that is whole
-/// UTF-8. `None` comes exactly where all of them are.
+/// The place where the bytes stop being UTF-8: the length of their longest prefix that is whole UTF-8. None exactly if all bytes
+/// are UTF-8.
 pub fn utf8_end(bytes: &[u8]) -> Option<usize>
     ensures whole { IfNone result (IsUtf8 bytes.now) }
     ensures place { IfSome result (IsValidUpTo bytes.now) }

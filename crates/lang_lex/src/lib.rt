@@ -1,5 +1,4 @@
-//! Tokens: what the lines of a session consist of, where each token stands, and the leftmost thing
-//! that is wrong with a line.
+//! Tokens: the parts of the lines of a session, where each token stands, and the leftmost fault of a line.
 #![tactic(auto)]
 
 mod bytes;

@@ -3,7 +3,7 @@
 ghost use Rattle.std.specs.Prelude.{◌≡◌, ◌-◌, ◌^◌, min};
 ghost use Rattle.def_language.specs.Numbers.{digits_value, is_wide, is_wide_part};
 
-/// The number that the digits write, or the greatest `u64` where it is greater.
+/// The number that the digits write, or the greatest `u64` if the number is greater.
 pub(crate) fn magnitude(digits: &[u8]) -> u64
     ensures { result ≡ min (digits_value digits.now) (2 ^ 64 - 1) }
 {

@@ -10,7 +10,7 @@ use crate::bytes::{behind, is_blank};
 use crate::tokens::token_at;
 use crate::{LexRefusal, Token};
 
-// The place of the first byte from the place on that is no blank, or the end of the line.
+// The first place from `place` on whose byte is no blank, or the end of the line.
 fn behind_blanks(line: &[u8], place: usize) -> usize
     requires { place ≤ length line.now }
     ensures same { tokens_from place line.now ≡ tokens_from result line.now }
@@ -26,7 +26,7 @@ fn behind_blanks(line: &[u8], place: usize) -> usize
     line.len()
 }
 
-// The first token from the place on, or what is wrong there.
+// The first token from the place on, or the fault there.
 fn token_from(line: &[u8], place: usize) -> Result<Option<Token>, LexRefusal>
     requires { place ≤ length line.now }
     ensures first { IfOk result (λ first. MatchOption first
@@ -50,8 +50,8 @@ fn token_from(line: &[u8], place: usize) -> Result<Option<Token>, LexRefusal>
     Ok(Some(Token { kind, from, to }))
 }
 
-/// Looks for the leftmost lexical fault of a line, without memory. A line without one has tokens, from
-/// its first byte on; the fault of any other stands in the line or at its end.
+/// Looks for the leftmost lexical fault of a line. If there is none, the whole line is tokens; otherwise the fault stands in the
+/// line or at its end.
 pub fn line_fault(line: &[u8]) -> Result<(), LexRefusal>
     ensures faultless { IfOk result (λ _. is_faultless 0 line.now ≡ true) }
     ensures fault { IfErr result (λ refusal. tokens_at 0 0 line.now ≡ Err refusal) }
@@ -64,9 +64,8 @@ pub fn line_fault(line: &[u8]) -> Result<(), LexRefusal>
     Ok(())
 }
 
-/// The first token of a line from the place on, where the line has no fault: `None` where blanks and a
-/// comment alone are left. The others follow from behind it, where nothing is wrong either. It takes no
-/// memory.
+/// The first token from the place on, in a line that has no fault there; `None` if only blanks and a comment are left. The other
+/// tokens follow after this one, again without a fault.
 pub fn next_token(line: &[u8], place: usize) -> Option<Token>
     requires within { place ≤ length line.now }
     requires faultless { is_faultless place line.now ≡ true }

@@ -6,7 +6,7 @@ ghost use Rattle.def_language.specs.QuotedTexts.{closed, escaped, says, text_at,
 use crate::bytes::behind;
 use crate::{LexRefusal, TokenKind};
 
-/// What a byte stands for directly after a backslash, if it may stand there.
+/// The byte that a byte stands for directly after a backslash, if it may stand there.
 pub(crate) fn escaped(byte: u8) -> Option<u8>
     ensures { result ≡ escaped byte }
 {
@@ -18,7 +18,7 @@ pub(crate) fn escaped(byte: u8) -> Option<u8>
     }
 }
 
-// The byte that a text says next, and how many bytes spell it; nothing at the closing quote.
+// The next byte of a text, and the number of bytes that spell it; None at the closing quote.
 #[tactic(auto, unfolding(def_language::specs::QuotedTexts::text_from))]
 pub(crate) fn next_byte(
     opened: usize,
@@ -58,7 +58,7 @@ pub(crate) fn next_byte(
     }
 }
 
-// A closed text that so many bytes spell behind its opening quote.
+// A closed text of `count` bytes, which `width` bytes spell after its opening quote.
 fn closed(opened: usize, count: usize, width: usize) -> Result<(TokenKind, usize), LexRefusal>
     requires { width < 2 ^ 63 }
     ensures gives { result ≡ closed opened count width }
@@ -70,7 +70,7 @@ fn closed(opened: usize, count: usize, width: usize) -> Result<(TokenKind, usize
     }
 }
 
-/// A text behind its opening quote, which stands at `opened`.
+/// The text after its opening quote, which stands at `opened`.
 pub(crate) fn text_at(opened: usize, rest: &[u8]) -> Result<(TokenKind, usize), LexRefusal>
     requires { opened + 1 + length rest.now < 2 ^ 63 }
     ensures gives { result ≡ text_at opened rest.now }

@@ -87,8 +87,7 @@ fn sign(byte: u8) -> Option<TokenKind>
     }
 }
 
-/// The longest token at the front of the bytes, which stand at the place, and how many bytes spell
-/// it.
+/// The longest token at the front of the bytes, which stand at the place, and the number of bytes that spell it.
 #[tactic(auto, unfolding(def_language::specs::Tokens::token_at))]
 pub(crate) fn token_at(place: usize, bytes: &[u8]) -> Result<(TokenKind, usize), LexRefusal>
     requires { place + length bytes.now < 2 ^ 63 }

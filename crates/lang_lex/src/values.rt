@@ -1,4 +1,4 @@
-//! What tokens say: the values of numbers, nulls and texts.
+//! The values of tokens: numbers, nulls and texts.
 
 ghost use Rattle.std.specs.Prelude.{◌≡◌, ◌≤◌, IfOk, length, true};
 ghost use Rattle.def_language.specs.Spelling.{null_of, number_of, spells, text_of};
@@ -7,7 +7,7 @@ ghost use Rattle.def_language.specs.declared.tokens.TokenKind.TheVariants.{Null,
 use crate::bytes::{behind, digit_run};
 use crate::numbers::magnitude;
 use crate::texts::next_byte;
-use base_types::{List, Memory, Word};
+use base_types::{List, Memory, OuterName, Word};
 use std::alloc::{AllocError, Global};
 
 /// The number that a token spells.
@@ -26,19 +26,23 @@ pub fn number_of(spelling: &[u8]) -> i64
     }
 }
 
-/// The update and the place of the null that a token spells.
-pub fn null_of(spelling: &[u8]) -> (u32, u32)
+/// The name of the null that a token spells.
+pub fn null_of(spelling: &[u8]) -> OuterName
     requires null { spells Null spelling.now ≡ true }
-    ensures parts { result ≡ null_of spelling.now }
+    ensures update { result.update ≡ (null_of spelling.now).0 }
+    ensures place { result.place ≡ (null_of spelling.now).1 }
 {
     let rest = behind(spelling, 1);
     let count = digit_run(rest);
     let update = magnitude(&rest[..count]);
     let place = magnitude(behind(rest, count + 1));
-    (update as u32, place as u32)
+    OuterName {
+        update: update as u32,
+        place: place as u32,
+    }
 }
 
-/// What the text that a token spells says: at most 256 bytes, without quotes and escapes.
+/// The bytes of the text that a token spells, without quotes and escapes: at most 256.
 pub fn text_of(alloc: Global, spelling: &[u8]) -> Result<Word, Memory>
     requires text { spells Text spelling.now ≡ true }
     ensures said { IfOk result (λ word. word.items ≡ text_of spelling.now) }

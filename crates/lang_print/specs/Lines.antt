@@ -21,7 +21,7 @@ with_lines words page items = fold (λ behind x. with_line behind (words x)) pag
 abbrev pub relation_statement : RelationSchema → Statement
 relation_statement r = Relation r.name (pos r.arity)
 
--- those of the mappings that no update adds
+-- the mappings that no update adds
 abbrev pub mapping_statements : List RelationSchema → List SessionMapping → List Statement
 mapping_statements relations mappings = map (λ m. Mapping (written_mapping relations m)) (initial_mappings mappings)
 

@@ -17,7 +17,7 @@ fn with_facts(page: Page, schema: &Schema, tuples: &TupleList) -> Result<Page, M
     with_separated(page, schema, tuples.as_slice())
 }
 
-/// Adds an answer as a session spells it behind the label.
+/// Adds an answer as a session spells it after the label.
 pub fn with_choice(page: Page, schema: &Schema, choice: &Choice) -> Result<Page, Memory>
     ensures words { IfOk result (λ p. p ≡
         with_words page (choice_words (written_choice schema.now (choice_of choice.now)))) }

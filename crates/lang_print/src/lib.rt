@@ -1,8 +1,7 @@
-//! The printed form of a session: each statement on a line of its own, and the words of facts, answers and
-//! operations for whoever prints such lines.
+//! The printed form of a session: each statement on a line of its own. Also the words of facts, answers and operations, for other
+//! printers of such lines.
 //!
-//! All of it is written on one `Page`, word by word; a contract says which words, or which lines of words, a page
-//! has gained.
+//! Everything is written on a `Page`, word by word. A contract says which words, or which lines of words, a page has gained.
 #![tactic(auto)]
 
 mod choices;

@@ -16,7 +16,7 @@ use base_types::{Choice, Mapping, Memory, Name, Tuple};
 use lang_schema::{Page, Schema, with_mapping};
 use lang_session::{Session, SessionUpdate};
 
-// The relation of a number.
+// Adds the relation of a number.
 fn with_relation(page: Page, schema: &Schema, number: u16) -> Result<Page, Memory>
     requires { number < length schema.now }
     ensures { (r : RelationSchema) → slice_get schema.now number ≡ Some r →
@@ -42,7 +42,7 @@ pub(crate) fn with_relations(mut page: Page, schema: &Schema) -> Result<Page, Me
     Ok(page)
 }
 
-// A mapping, where no update adds it.
+// Adds a mapping, unless an update adds it.
 fn with_initial(page: Page, schema: &Schema, mapping: &Mapping) -> Result<Page, Memory>
     ensures { IfOk result (λ p. p ≡ with_lines statement_words page
         (mapping_statements schema.now (session_mapping_of mapping.now ∷ []))) }
@@ -81,7 +81,7 @@ pub(crate) fn with_base(mut page: Page, schema: &Schema, tuples: &[Tuple]) -> Re
     Ok(page)
 }
 
-// The answers to the update of a label.
+// Adds the answers to the update of a label.
 #[tactic(auto, using(crate::proofs::Onward::mapped_more))]
 fn with_answers(
     mut page: Page,
@@ -99,7 +99,7 @@ fn with_answers(
     Ok(page)
 }
 
-// An update and its answers.
+// Adds an update and its answers.
 fn with_update(page: Page, session: &Session, update: &SessionUpdate) -> Result<Page, Memory>
     ensures { IfOk result (λ p. p ≡ with_lines statement_words page
         (update_statements (session_of session.now) (update_of update.now))) }

@@ -15,7 +15,7 @@ use base_types::{MappingList, Memory, Operation, Value};
 use lang_schema::{Page, Schema, with_mapping};
 use lang_session::Session;
 
-// What stands for a mapping that is not there: its signs alone. No valid session has an update that adds such a one.
+// Adds the signs of a mapping without its parts, for an update whose mapping does not exist. No valid session has such an update.
 fn with_no_mapping(page: Page) -> Result<Page, Memory>
     ensures { (relations : List RelationSchema) →
         IfOk result (λ p. p ≡ with_words page
@@ -24,7 +24,7 @@ fn with_no_mapping(page: Page) -> Result<Page, Memory>
     page.name(b"mapping")?.name(b"")?.colon()?.arrow()
 }
 
-// The mapping of a number.
+// Adds the mapping of a number.
 fn with_added_mapping(
     page: Page,
     schema: &Schema,
@@ -41,7 +41,7 @@ fn with_added_mapping(
     }
 }
 
-/// Adds an operation as a session spells it behind the curator.
+/// Adds an operation as a session spells it after the curator.
 pub(crate) fn with_operation(
     page: Page,
     session: &Session,

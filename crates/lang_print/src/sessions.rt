@@ -44,8 +44,8 @@ fn print_as(alloc: Global, format: u8, session: &Session) -> Result<Vec<u8>, Mem
     Ok(whole.into_text())
 }
 
-/// The printed form of a session: header, relations, mappings, base, each update followed by its answers, and `end`, a line for
-/// each. A session that passes all checks is read from it again.
+/// The printed form of a session: header, relations, mappings, base, each update followed by its answers, and `end`, with a line
+/// for each. If the session passes all checks, reading this text gives it back.
 pub fn print_session(alloc: Global, session: &Session) -> Result<Vec<u8>, Memory>
     ensures printed { IfOk result (λ text. text.items ≡ printed (session_of session.now)) }
     ensures read_again { IsSession (session_of session.now) →

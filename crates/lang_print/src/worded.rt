@@ -1,4 +1,4 @@
-//! What stands on a line as words, and lists of it with commas between.
+//! Things that stand on a line as words, and lists of them with commas between.
 
 ghost use Rattle.std.specs.Prelude.{◌≡◌, ◌∷◌, [], List, IfOk, flat_map, map};
 ghost use Rattle.def_language.specs.Words.{Word, comma};
@@ -11,7 +11,7 @@ ghost use Rattle.lang_schema.specs.Pages.{with_words};
 use base_types::{Memory, Tuple, Value};
 use lang_schema::{Page, Schema};
 
-/// What has words on a line, by the names of the relations.
+/// Something that stands on a line as words, given the names of the relations.
 pub trait Worded {
     ghost words: { List RelationSchema → Self → List Word };
 
@@ -36,7 +36,7 @@ impl Worded for Tuple {
     }
 }
 
-// Each item behind a comma.
+// Adds each item after a comma.
 #[tactic(auto, using(lang_schema::proofs::Noted::fold_more))]
 fn with_others<T: Worded>(mut page: Page, schema: &Schema, items: &[T]) -> Result<Page, Memory>
     ensures { IfOk result (λ p. p ≡ with_words page

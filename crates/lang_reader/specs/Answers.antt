@@ -1,4 +1,4 @@
--- What faults of the program stand for, and what reading a line answers beside what is read by definition.
+-- The meanings of the program's faults, and the answers of reading, compared with those of the definitions.
 use Rattle.std.specs.Prelude.{◌≡◌, ℕ, List, Result, Ok, Err}
 use Rattle.def_language.specs.Faults.{Kind, UnknownRelation, Arity, EmptySide, TooManyAtoms, DuplicateName, PlainCycle, BadByte, OpenText, WideNumber, LongText, BadHeader, Expected, UnknownLabel, NullNotBelow, LimitReached, NoEnd, AfterEnd, Wrong}
 use Rattle.def_language.specs.Lines.{IsFirstFault}
@@ -34,27 +34,27 @@ kind_of fault.AfterEnd = AfterEnd
 abbrev pub wrong_of : SessionFault → Wrong
 wrong_of f = record { line = f.line; kind = kind_of f.kind }
 
--- a refusal is the fault that is read; want of memory may come in place of any answer
+-- a refusal is the fault that the definition gives; want of memory may come in place of any answer
 abbrev pub Refuses : {Y : Type 0} → LineRefusal → Result Y Kind → Type 0
 Refuses (refusal.Fault kind) read = read ≡ Err (kind_of kind)
 Refuses refusal.Memory read = Unit {0}
 
--- an answer, seen by `view`, is what is read
+-- an answer, seen by `view`, is the one that the definition gives
 abbrev pub Gives : {X Y : Type 0} → (X → Y) → Result X LineRefusal → Result Y Kind → Type 0
 Gives view (Ok x) read = read ≡ Ok (view x)
 Gives view (Err e) read = Refuses e read
 
--- a failure is the fault that is read, with its line; want of memory may come in place of any answer
+-- a failure is the fault that the definition gives, with its line; want of memory may come in place of any answer
 abbrev pub Fails : {Y : Type 0} → ReadFailure → Result Y Wrong → Type 0
 Fails (failure.Fault f) read = read ≡ Err (wrong_of f)
 Fails failure.Memory read = Unit {0}
 
--- an answer, seen by `view`, is what is read, with lines
+-- an answer to a whole text, seen by `view`, is the one that the definition gives
 abbrev pub GivesWhole : {X Y : Type 0} → (X → Y) → Result X ReadFailure → Result Y Wrong → Type 0
 GivesWhole view (Ok x) read = read ≡ Ok (view x)
 GivesWhole view (Err e) read = Fails e read
 
--- the failure tells what is wrong with the bytes first, or there was not enough memory
+-- the failure is the first fault of the bytes, or want of memory
 abbrev pub IsTold : List ℕ → ReadFailure → Type 0
 IsTold bytes (failure.Fault f) = IsFirstFault bytes (wrong_of f)
 IsTold bytes failure.Memory = Unit {0}

@@ -14,7 +14,7 @@ use Rattle.lang_reader.specs.declared.tuples.TupleText.{TupleText}
 use Rattle.lang_reader.specs.declared.tuples.TupleText.TheVariants.{Malformed, Unknown, Tuple}
 use Rattle.lang_reader.specs.Places.{IsOneLine}
 
--- the fact that the words of a line are
+-- the fact that the words of a line spell
 abbrev pub fact_on : List ℕ → Result WrittenFact Kind
 fact_on line = placed_words 0 (words_at line) >>= (λ words. whole (fact_at words))
 
@@ -24,13 +24,13 @@ pub record SpellsFact (text : List ℕ) (fact : WrittenFact) : Type 0 where
   pub one_line : IsOneLine text
   pub words : fact_on text ≡ Ok fact
 
--- what the text says over the relations: no fact, a fact that goes with none of them, or a tuple
+-- the meaning of the text over the relations: no fact, a fact that does not fit them, or a tuple
 abbrev pub Says : List RelationSchema → List ℕ → TupleText → Type 0
 Says relations text Malformed = (fact : WrittenFact) → SpellsFact text fact → ⊥
 Says relations text Unknown = (fact : WrittenFact) × SpellsFact text fact × (kind : Kind) × (fact_of relations fact ≡ Err kind)
 Says relations text (Tuple t) = (fact : WrittenFact) × SpellsFact text fact × (fact_of relations fact ≡ Ok (tuple_meant t))
 
--- the tuple that a fact is over relations, if it goes with them
+-- the tuple of a fact over relations, if the fact fits them
 abbrev pub known_fact : Result Fact Kind → Option Fact
 known_fact (Ok t) = Some t
 known_fact (Err kind) = None

@@ -1,4 +1,4 @@
--- What the layers below a line refuse, as refusals of the line.
+-- The refusals of the layers below, as refusals of a line.
 use Rattle.lang_forms.specs.declared.faults.FormRefusal.{FormRefusal}
 use Rattle.lang_forms.specs.declared.faults.FormRefusal.TheVariants as form
 use Rattle.lang_schema.specs.declared.refusals.SchemaRefusal.{SchemaRefusal}
@@ -15,7 +15,7 @@ of_form form.BadHeader = Fault fault.Header
 of_form (form.Expected wanted) = Fault (fault.Expected wanted)
 of_form form.Memory = Memory
 
--- what the relations refuse
+-- a fact or a mapping that does not fit the relations, a name that is taken, or a limit
 abbrev pub of_schema : SchemaRefusal → LineRefusal
 of_schema (schema.UnknownRelation n) = Fault (fault.UnknownRelation n)
 of_schema (schema.Arity n columns found) = Fault (fault.Arity n columns found)

@@ -1,4 +1,4 @@
-//! What can be wrong with a session, and where.
+//! The faults of a session, and where they are.
 
 ghost use Rattle.std.specs.Prelude.{◌≡◌};
 ghost use Rattle.lang_reader.specs.Refusals.{of_form, of_schema, of_statement};
@@ -11,7 +11,7 @@ use lang_checks::TakeRefusal;
 use lang_forms::FormRefusal;
 use lang_schema::SchemaRefusal;
 
-/// What is wrong with a session. Places count bytes of the input from 0.
+/// A fault of a session. Places count bytes of the input from 0.
 #[derive(Debug, Drop)]
 pub enum FaultKind {
     /// No relation has this name.
@@ -30,21 +30,21 @@ pub enum FaultKind {
     DuplicateName(Name),
     /// With the mapping of this name the mappings have a plain cycle.
     PlainCycle(Name),
-    /// The bytes stop being UTF-8 at the place, or a byte there can be no part of a token.
+    /// The bytes stop being UTF-8 at the place, or the byte there cannot be part of a token.
     BadByte(usize),
-    /// A text that is opened at the place is not closed on its line.
+    /// A text that opens at the place is not closed on its line.
     OpenText(usize),
-    /// A number or a part of a null is out of range; it begins at the place.
+    /// A number or a part of a null that begins at the place is out of range.
     WideNumber(usize),
-    /// A text that is opened at the place says more than 256 bytes.
+    /// A text that opens at the place stands for more than 256 bytes.
     LongText(usize),
-    /// The first statement is no header, or there is none.
+    /// The first statement is no header, or there is no statement.
     Header,
     /// This is missing at the first word that does not fit.
     Expected(Wanted),
     /// No update has this label.
     UnknownLabel(Name),
-    /// A null comes from an update, this one, that is not below.
+    /// A null comes from this update, which is not below the present one.
     NullNotBelow {
         update: u32,
         place: u32,
@@ -67,7 +67,7 @@ pub struct SessionFault {
 /// Why no session is read.
 #[derive(Debug, Drop)]
 pub enum ReadFailure {
-    /// The input spells no session: this is wrong with it first.
+    /// The input spells no session; this is its first fault.
     Fault(SessionFault),
     /// There was not enough memory.
     Memory,
@@ -76,7 +76,7 @@ pub enum ReadFailure {
 /// Why a line is not read.
 #[derive(Debug, Drop)]
 pub(crate) enum LineRefusal {
-    /// This is wrong with it.
+    /// The line has this fault.
     Fault(FaultKind),
     /// There was not enough memory.
     Memory,

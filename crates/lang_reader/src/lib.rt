@@ -1,8 +1,7 @@
-//! From bytes to a session, or to the first thing that is wrong with them and what users are told of it;
-//! and from the text of a fact to a tuple.
+//! From bytes to a session, or to their first fault and its text for users; and from the text of a fact to a tuple.
 //!
-//! The clauses speak by the definitions of `def_language`: `Spells bytes s` says that the bytes spell the
-//! session, and `IsFirstFault bytes wrong` that this is wrong with them first.
+//! The clauses use the definitions of `def_language`: `Spells bytes s` says that the bytes spell the session s, and
+//! `IsFirstFault bytes wrong` says that `wrong` is their first fault.
 #![tactic(auto)]
 
 mod faults;

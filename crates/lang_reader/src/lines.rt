@@ -17,7 +17,7 @@ use lang_checks::Draft;
 use lang_forms::{RawStatement, Section, Words, statement_at};
 use std::alloc::Global;
 
-/// What has been read so far.
+/// The state of reading: the section, and the session so far.
 #[derive(Drop)]
 pub(crate) struct Reader {
     section: Section,
@@ -40,7 +40,7 @@ fn section_of(statement: &RawStatement) -> Section
 }
 
 impl Reader {
-    /// Before the header.
+    /// The reader before the header.
     pub(crate) fn new(alloc: Global) -> Reader
         ensures begun { state_of result ≡ begun }
     {
@@ -50,7 +50,7 @@ impl Reader {
         }
     }
 
-    // A line that is not blank, where `end` has not been.
+    // Takes a line that is not blank, before `end`.
     #[tactic(auto, unfolding(def_language::specs::Lines::open_line))]
     fn open_line(&mut self, alloc: Global, words: Words<'_>) -> Result<(), LineRefusal>
         ensures { Gives (λ _. state_of self.new) result
@@ -63,7 +63,7 @@ impl Reader {
         Ok(())
     }
 
-    // A line with these words.
+    // Takes a line with these words.
     #[tactic(auto, unfolding(def_language::specs::Lines::line_with))]
     fn line_with(&mut self, alloc: Global, words: Words<'_>) -> Result<(), LineRefusal>
         ensures { Gives (λ _. state_of self.new) result
@@ -78,7 +78,7 @@ impl Reader {
         self.open_line(alloc, words)
     }
 
-    // The line that begins at the place.
+    // Takes the line that begins at the place.
     fn line_at(&mut self, alloc: Global, start: usize, line: &[u8]) -> Result<(), LineRefusal>
         requires { start + length line.now < 2 ^ 64 }
         ensures { Gives (λ _. state_of self.new) result
@@ -88,7 +88,7 @@ impl Reader {
         self.line_with(alloc, words)
     }
 
-    // The line of the number, which begins at the place.
+    // Takes the line of this number, which begins at the place.
     fn numbered_line(
         &mut self,
         alloc: Global,
@@ -110,7 +110,7 @@ impl Reader {
     }
 }
 
-// Behind the last line, which has the number.
+// The draft after the last line, which has this number.
 fn closed(number: u32, reader: Reader) -> Result<Draft, ReadFailure>
     ensures { GivesWhole (λ draft. draft) result
         (numbered number (closed (section_meant reader.section) reader.draft)) }
@@ -123,7 +123,7 @@ fn closed(number: u32, reader: Reader) -> Result<Draft, ReadFailure>
     Err(ReadFailure::Fault(SessionFault { line: number, kind }))
 }
 
-// Takes the lines of a text, up to the first fault. It gives how many there are.
+// Takes the lines of a text, up to the first fault. It returns the number of lines.
 fn take_lines(alloc: Global, reader: &mut Reader, bytes: &[u8]) -> Result<u32, ReadFailure>
     requires few_lines { count_by is_line_feed bytes.now < 4294967295 }
     ensures taken { IfOk result (λ number.

@@ -17,7 +17,7 @@ use lang_lex::utf8_end;
 use lang_session::Session;
 use std::alloc::Global;
 
-// The bytes stop being UTF-8 at the place.
+// The failure for bytes that stop being UTF-8 at the place.
 fn not_text(bytes: &[u8], place: usize) -> ReadFailure
     requires place { IsValidUpTo bytes.now place }
     requires few_lines { count_by is_line_feed bytes.now < 4294967295 }
@@ -43,10 +43,9 @@ fn read_text(alloc: Global, bytes: &[u8]) -> Result<Session, ReadFailure>
 
 /// Reads a session.
 ///
-/// The input must be UTF-8 as a whole; then its lines are read from the first on. Of a line the
-/// leftmost lexical fault comes first, then its form from the left, then the checks of its statement
-/// in their order. What is told is the first fault of the input, with its line. The answer may be want
-/// of memory in place of any other.
+/// The input must be UTF-8 as a whole; then its lines are read from the first on. In a line the leftmost lexical fault comes
+/// first, then the faults of its form from the left, then those of its statement in the order of the checks. A failure is the
+/// first fault of the input, with its line, or want of memory.
 pub fn read_session(alloc: Global, bytes: &[u8]) -> Result<Session, ReadFailure>
     requires few_lines { count_by is_line_feed bytes.now < 4294967295 }
     ensures ok { IfOk result (λ session. Spells bytes.now (session_of session)) }

@@ -1,4 +1,4 @@
-//! The lines of a text: what stands between its line feeds.
+//! The lines of a text, which its line feeds separate.
 
 ghost use Rattle.std.specs.Prelude.{◌≡◌, ◌+◌, ◌<◌, ◌≤◌, ◌∷◌, ◌↔◌, IsTrue, MatchOption, length};
 ghost use Rattle.std.specs.List.{count_by};
@@ -10,7 +10,7 @@ ghost use Rattle.lang_reader.specs.States.{lines_left};
 
 use memchr::memchr;
 
-/// The line at the front of a text, and what stands behind its line feed, where one ends it.
+/// The first line of a text, and the text after its line feed, if a line feed ends it.
 pub(crate) fn first_line(text: &[u8]) -> (&[u8], Option<&[u8]>)
     ensures one_line { IsOneLine result.0.now }
     ensures lines { lines_of text.now ≡ result.0.now ∷ lines_left (option_copied result.1) }

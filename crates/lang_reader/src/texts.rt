@@ -1,4 +1,4 @@
-//! Faults in words.
+//! The texts of faults.
 
 ghost use Rattle.std.specs.Prelude.{◌≡◌, ◌++◌, OnOk, IfOk};
 ghost use Rattle.std.specs.Fmt.{decimal};
@@ -6,7 +6,7 @@ ghost use Rattle.def_language.specs.Faults.{Arity, NullNotBelow, kind_text, numb
 ghost use Rattle.lang_reader.specs.Answers.{kind_of, wrong_of};
 
 use crate::faults::{FaultKind, SessionFault};
-use base_types::{Memory, Name};
+use base_types::{Memory, Name, OuterName};
 use def_language::{Wanted, Which};
 use std::alloc::{AllocError, Global};
 
@@ -72,7 +72,7 @@ fn which_text(which: Which) -> &'static [u8]
     }
 }
 
-// Words, a name, and words.
+// Adds words, a name, and words.
 fn push_named(out: &mut Vec<u8>, front: &[u8], name: &Name, behind: &[u8]) -> Result<(), AllocError>
     ensures { OnOk result (out.new.items ≡
         out.old.items ++ (front.now ++ (name.now.items ++ behind.now))) }
@@ -82,7 +82,7 @@ fn push_named(out: &mut Vec<u8>, front: &[u8], name: &Name, behind: &[u8]) -> Re
     out.extend_from_slice(behind)
 }
 
-// Words and other words.
+// Adds words and other words.
 fn push_both(out: &mut Vec<u8>, front: &[u8], behind: &[u8]) -> Result<(), AllocError>
     ensures { OnOk result (out.new.items ≡ out.old.items ++ (front.now ++ behind.now)) }
 {
@@ -90,7 +90,7 @@ fn push_both(out: &mut Vec<u8>, front: &[u8], behind: &[u8]) -> Result<(), Alloc
     out.extend_from_slice(behind)
 }
 
-// Words and a place.
+// Adds words and a place.
 fn push_place(
     alloc: Global,
     out: &mut Vec<u8>,
@@ -117,9 +117,11 @@ fn push_arity(
     push_named(out, b"relation ", name, columns.as_bytes())
 }
 
-fn push_null(alloc: Global, out: &mut Vec<u8>, update: u32, place: u32) -> Result<(), AllocError>
-    ensures { OnOk result (out.new.items ≡ out.old.items ++ kind_text (NullNotBelow update place)) }
+fn push_null(alloc: Global, out: &mut Vec<u8>, name: OuterName) -> Result<(), AllocError>
+    ensures { OnOk result (out.new.items ≡
+        out.old.items ++ kind_text (NullNotBelow name.update name.place)) }
 {
+    let OuterName { update, place } = name;
     let words = format!(in alloc; "null ?{update}.{place} is not below")?;
     out.extend_from_slice(words.as_bytes())
 }
@@ -149,14 +151,20 @@ fn push_kind(alloc: Global, out: &mut Vec<u8>, kind: &FaultKind) -> Result<(), A
         FaultKind::Header => out.extend_from_slice(b"header is not youtopia 1 or 2"),
         FaultKind::Expected(wanted) => push_both(out, b"expected ", wanted_text(*wanted)),
         FaultKind::UnknownLabel(name) => push_both(out, b"unknown label ", name.as_slice()),
-        FaultKind::NullNotBelow { update, place } => push_null(alloc, out, *update, *place),
+        FaultKind::NullNotBelow { update, place } => {
+            let name = OuterName {
+                update: *update,
+                place: *place,
+            };
+            push_null(alloc, out, name)
+        }
         FaultKind::LimitReached(which) => push_both(out, b"limit reached: ", which_text(*which)),
         FaultKind::NoEnd => out.extend_from_slice(b"end is missing"),
         FaultKind::AfterEnd => out.extend_from_slice(b"something follows end"),
     }
 }
 
-/// A fault as users are told it: `session line LINE: fault NUMBER: WORDS`.
+/// The text of a fault for users: `session line LINE: fault NUMBER: WORDS`.
 pub fn fault_text(alloc: Global, fault: &SessionFault) -> Result<Vec<u8>, Memory>
     ensures text { IfOk result (λ text. text.items ≡ wrong_text (wrong_of fault.now)) }
 {

@@ -18,18 +18,18 @@ use lang_lex::utf8_end;
 use lang_schema::Schema;
 use std::alloc::Global;
 
-/// What a text says over the relations of a schema.
+/// The meaning of a text over the relations of a schema.
 #[derive(Debug, Drop)]
 pub enum TupleText {
-    /// It is no fact.
+    /// The text is no fact.
     Malformed,
-    /// It is a fact whose relation the schema lacks, or has with another number of columns.
+    /// The text is a fact whose relation the schema lacks, or has with another number of columns.
     Unknown,
-    /// It is this tuple.
+    /// The text is this tuple.
     Tuple(Tuple),
 }
 
-// The fact that the words of a line are.
+// The fact that the words of a line spell.
 fn fact_on(alloc: Global, line: &[u8]) -> Result<RawFact, LineRefusal>
     ensures { Gives fact_meant result (fact_on line.now) }
 {
@@ -66,8 +66,8 @@ fn tuple_of(alloc: Global, schema: &Schema, fact: RawFact) -> Result<Tuple, Line
     Ok(Tuple::new(alloc, relation, fact.values)?)
 }
 
-/// The tuple of a schema that a fact is; None exactly where the schema lacks its relation, or has it with another number of
-/// columns. A null may come from any update.
+/// The tuple of a fact over a schema; None exactly if the schema lacks its relation, or has it with another number of columns. A
+/// null may come from any update.
 pub fn tuple_in(alloc: Global, schema: &Schema, fact: &RawFact) -> Result<Option<Tuple>, Memory>
     ensures tuple { IfOk result
         (λ found. option_map tuple_meant found ≡

@@ -11,7 +11,7 @@ use crate::faults::{FaultKind, LineRefusal};
 use lang_forms::Words;
 use lang_lex::LexRefusal;
 
-// A lexical fault of a line that begins at the place.
+// The lexical fault of a line that begins at the place, as a refusal of the line.
 fn placed(start: usize, refusal: LexRefusal) -> LineRefusal
     requires { start + place_in refusal < 2 ^ 64 }
     ensures { (line : Sequence ℕ) → words_at line ≡ Err refusal →

@@ -1,4 +1,4 @@
--- What is added to a page, and what the lists of the program mean.
+-- Additions to a page, and the meanings of the program's lists.
 use Rattle.std.specs.Prelude.{◌≡◌, List, map}
 use Rattle.base_types.specs.Listed.{Listed}
 use Rattle.base_types.specs.declared.mappings.Mapping.{Mapping}
@@ -10,15 +10,15 @@ use Rattle.lang_schema.specs.Pages.{Written, with_words}
 use Rattle.lang_session.specs.Meanings.{update_of}
 use Rattle.lang_session.specs.declared.sessions.SessionUpdate.{SessionUpdate}
 
--- the page has these words more
+-- the page p is `page` with these words added
 abbrev pub HasWords : Written → List Word → Written → Type 0
 HasWords page words p = p ≡ with_words page words
 
--- the page has one line more, of these words
+-- the page p is `page` with one line of these words added
 abbrev pub HasLine : Written → List Word → Written → Type 0
 HasLine page words p = p ≡ with_line page words
 
--- the page has these lines more
+-- the page p is `page` with these lines added
 abbrev pub HasLines : Written → List (List Word) → Written → Type 0
 HasLines page lines p = p ≡ with_lines (λ words. words) page lines
 

@@ -1,4 +1,4 @@
--- The result text: what people are told of a run, line by line.
+-- The result text: the result of a run for people, line by line.
 use Rattle.std.specs.Prelude.{ℕ, pos, ◌+◌, ◌-◌, List, [], ◌∷◌, ◌++◌, Option, Some, None, Result, Ok, Err, length, map, flat_map, codes, slice_index_or}
 use Rattle.def_machine.specs.Standings.{Lack, Missing, Misfit}
 use Rattle.def_chase.specs.Values.{Fact}
@@ -17,7 +17,7 @@ use Rattle.def_language.specs.Printing.{name_of, written_fact}
 use Rattle.def_language.specs.Sessions.{RelationSchema, SessionUpdate, SessionData, mapping_names}
 use Rattle.lang_session.specs.Meanings.{requests_in}
 
--- where no update has the number
+-- the update that stands for a number that no update has
 abbrev pub no_update : SessionUpdate
 no_update = record { label = []; curator = []; operation = Enacts 0; answers = [] }
 
@@ -27,7 +27,7 @@ update_words updates n =
     let u = slice_index_or updates (n - 1) no_update in
     number (pos n) ∷ name u.label ∷ name u.curator ∷ []
 
--- how an update ended; of a null that is nowhere, which
+-- how an update ended; if it was refused, with the null that is nowhere
 abbrev pub end_words : End → List Word
 end_words IsDone = name (codes "done") ∷ []
 end_words IsSpent = name (codes "spent") ∷ []
@@ -39,7 +39,7 @@ finish_words updates n f =
     name (codes "update") ∷ (update_words updates n
     ++ (end_words f.outcome ++ name (codes "steps") ∷ number (pos f.steps) ∷ name (codes "nulls") ∷ number (pos f.nulls) ∷ []))
 
--- the updates that came to their ends, from the given number on
+-- the updates that have ended, numbered from n on
 abbrev pub finish_lines : List SessionUpdate → ℕ → List FinishTold → List (List Word)
 finish_lines updates n [] = []
 finish_lines updates n (f ∷ fs) = finish_words updates n f ∷ finish_lines updates (n + 1) fs
@@ -57,17 +57,17 @@ abbrev pub positive_lines : List RelationSchema → Name → Fact → List Fact 
 positive_lines relations called t candidates =
     (name (codes "question") ∷ name (codes "positive") ∷ name called ∷ tuple_words relations t) ∷ candidate_lines relations candidates
 
--- question negative MAPPING, and the tuples of which some have to go
+-- question negative MAPPING, and the tuples of which some must be deleted
 abbrev pub negative_lines : List RelationSchema → Name → List Fact → List (List Word)
 negative_lines relations called facts =
     (name (codes "question") ∷ name (codes "negative") ∷ name called ∷ []) ∷ candidate_lines relations facts
 
--- A question, by the name of its mapping.
+-- A question, with the name of its mapping.
 abbrev pub question_lines : SessionData → Inquiry → List (List Word)
 question_lines s (PositiveInquiry m t candidates) = positive_lines s.relations (name_of (mapping_names s.mappings) m) t candidates
 question_lines s (NegativeInquiry m facts) = negative_lines s.relations (name_of (mapping_names s.mappings) m) facts
 
--- what lacks for the answer
+-- why the run stopped: the answer is missing, or does not fit
 abbrev pub lack_name : Lack → Name
 lack_name Missing = codes "missing"
 lack_name Misfit = codes "misfit"
@@ -76,7 +76,7 @@ lack_name Misfit = codes "misfit"
 abbrev pub stop_lines : SessionData → StopTold → List (List Word)
 stop_lines s stop = (name (codes "stuck") ∷ (update_words s.updates stop.number ++ name (lack_name stop.lack) ∷ [])) ∷ question_lines s stop.question
 
--- the stop, where the run stopped
+-- the stop, if the run stopped
 abbrev pub stop_lines_in : SessionData → Option StopTold → List (List Word)
 stop_lines_in s None = []
 stop_lines_in s (Some stop) = stop_lines s stop
@@ -85,7 +85,7 @@ stop_lines_in s (Some stop) = stop_lines s stop
 abbrev pub repository_lines : List RelationSchema → List Fact → List (List Word)
 repository_lines relations facts = (name (codes "repository") ∷ number (pos (length facts)) ∷ []) ∷ map (tuple_words relations) facts
 
--- committed C of U: how many of the updates came to their ends
+-- committed C of U: C of the U updates have ended
 abbrev pub committed_words : List FinishTold → List SessionUpdate → List Word
 committed_words finishes updates = name (codes "committed") ∷ number (pos (length finishes)) ∷ name (codes "of") ∷ number (pos (length updates)) ∷ []
 
@@ -104,15 +104,15 @@ result_lines s r =
 abbrev pub lines_text : List (List Word) → List ℕ
 lines_text lines = flat_map (λ words. laid_out words ++ 10 ∷ []) lines
 
--- The result text of a session and what is told of its run.
+-- The result text of a session and the result of its run.
 abbrev pub result_text : SessionData → ResultTold → List ℕ
 result_text s r = lines_text (result_lines s r)
 
--- what the serial machine tells of a session, with a budget of steps for each update
+-- the result of the serial machine on a session, with a budget of steps for each update
 abbrev pub serial_told : ℕ → SessionData → ResultTold
 serial_told budget s = result_in (serial_result (rules_of s.mappings) budget s.base (requests_in s))
 
--- the result text of the serial machine on what was read; nothing where that is no session
+-- the result text of the serial machine on the session that was read; empty if none was
 abbrev pub serial_text : ℕ → Result SessionData Wrong → List ℕ
 serial_text budget (Ok s) = result_text s (serial_told budget s)
 serial_text budget (Err wrong) = []

@@ -1,10 +1,10 @@
--- The texts of the worked rows, and what a row says.
+-- The texts of the worked rows, and the meaning of a row.
 use Rattle.std.specs.Prelude.{◌≡◌, ℕ, List, codes}
 use Rattle.def_language.specs.Lines.{begun, lines_from, lines_of}
 use Rattle.lang_report.specs.Results.{serial_text}
 use Rattle.lang_report.specs.Saved.{saved_text}
 
--- this is the result text of the session that these bytes spell, with so many steps for each update
+-- this is the result text of the session that these bytes spell, with a budget of steps for each update
 abbrev pub TellsOf : ℕ → List ℕ → List ℕ → Type 0
 TellsOf budget session text = serial_text budget (lines_from 0 0 begun (lines_of session)) ≡ text
 

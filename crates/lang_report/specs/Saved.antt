@@ -1,4 +1,4 @@
--- The saved session: what a run left, as a session that begins with it.
+-- The saved session: a session that begins with the result of a run.
 use Rattle.std.specs.Prelude.{◌≡◌, ℕ, ◌+◌, ◌-◌, ◌==◌, Bool, true, false, ◌||◌, nat_lt, List, [], ◌∷◌, Option, Some, None, Result, Ok, Err, length, map, flat_map, filter, fold, count_by, slice_get}
 use Rattle.std.specs.declared.cmp.Ordering.TheVariants.{Less}
 use Rattle.std.specs.Ordering.{is_lt}
@@ -11,13 +11,13 @@ use Rattle.def_language.specs.Printing.{printed}
 use Rattle.def_language.specs.Sessions.{SessionMapping, SessionData}
 use Rattle.lang_report.specs.Results.{serial_told}
 
--- the null that a value is, if it is one
+-- the value if it is a null, as a list
 abbrev pub null_in : Datum → List NullName
 null_in (Number z) = []
 null_in (Text t) = []
 null_in (Unknown n) = n ∷ []
 
--- the nulls of a tuple, as often as they stand there
+-- the nulls of a tuple, each as often as it stands there
 abbrev pub nulls_in : Fact → List NullName
 nulls_in t = flat_map null_in t.values
 
@@ -43,7 +43,7 @@ NamesKeepOrder facts =
     (i : ℕ) (m n : NullName) → slice_get (different_nulls facts) i ≡ Some m → null_cmp m n ≡ Less
     → null_cmp (base_null (different_nulls facts) m) (base_null (different_nulls facts) n) ≡ Less
 
--- the tuples of a repository as those of a base
+-- the tuples of a repository as tuples of a base
 abbrev pub saved_base : List Fact → List Fact
 saved_base facts = map (base_fact (different_nulls facts)) facts
 
@@ -52,7 +52,7 @@ is_done IsDone = true
 is_done IsSpent = false
 is_done (IsRefused u k) = false
 
--- the update that ended so is done
+-- the update has ended, and is done
 abbrev pub is_done_in : Option FinishTold → Bool
 is_done_in None = false
 is_done_in (Some f) = is_done f.outcome
@@ -65,12 +65,12 @@ stays_in_force finishes m = m.rule.since == 0 || is_done_in (slice_get finishes 
 abbrev pub from_start : SessionMapping → SessionMapping
 from_start m = record m { rule = record m.rule { since = 0 } }
 
--- those that are in force in the end, in force from the start
+-- the mappings that are in force in the end, made to be in force from the start
 abbrev pub saved_mappings : List FinishTold → List SessionMapping → List SessionMapping
 saved_mappings finishes mappings = map from_start (filter (stays_in_force finishes) mappings)
 
--- The session of format 2 that begins with what a run left: its relations, the mappings in force, the repository as
--- the base, and no updates.
+-- The session of format 2 that begins with the result of a run: the relations, the mappings in force, the repository as the base,
+-- and no updates.
 abbrev pub saved : SessionData → ResultTold → SessionData
 saved s r = record { format = 2; relations = s.relations; mappings = saved_mappings r.finishes s.mappings; base = saved_base r.repository; updates = [] }
 
@@ -78,7 +78,7 @@ saved s r = record { format = 2; relations = s.relations; mappings = saved_mappi
 abbrev pub is_too_large : SessionData → Bool
 is_too_large s = nat_lt 100000 (length s.base) || nat_lt 16777216 (length (printed s))
 
--- what the serial machine leaves of what was read, as a session's text; nothing where that is no session
+-- the saved session of the serial machine on the session that was read, as text; empty if none was
 abbrev pub saved_text : ℕ → Result SessionData Wrong → List ℕ
 saved_text budget (Ok s) = printed (saved s (serial_told budget s))
 saved_text budget (Err wrong) = []

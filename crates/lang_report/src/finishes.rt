@@ -1,4 +1,4 @@
-//! The lines of updates that came to their ends.
+//! The lines of updates that have ended.
 
 ghost use Rattle.std.specs.Prelude.{◌≡◌, ◌+◌, ◌<◌, ◌^◌, Some, length, map, slice_get, IfOk, OnOk};
 ghost use Rattle.chase_update.specs.Results.{finish_of};
@@ -12,7 +12,7 @@ use chase_update::{Finish, Outcome};
 use lang_schema::Page;
 use lang_session::SessionUpdates;
 
-// How the update ended.
+// Adds how the update ended.
 fn add_end(page: &mut Page, finish: &Finish) -> Result<(), Memory>
     ensures { OnOk result (HasWords page.old
         (end_words (finish_of finish.now).outcome) page.new) }
@@ -32,7 +32,7 @@ fn add_end(page: &mut Page, finish: &Finish) -> Result<(), Memory>
     }
 }
 
-// The update of a number.
+// Adds the line of the update of this number.
 fn add_finish(
     page: &mut Page,
     updates: &SessionUpdates,
@@ -53,7 +53,7 @@ fn add_finish(
     page.add_line_feed()
 }
 
-// The update that came to its end at a place, counted from 0.
+// Adds the line of the update that ended at this place of the list, counted from 0.
 fn add_finish_at(
     page: &mut Page,
     updates: &SessionUpdates,
@@ -71,7 +71,7 @@ fn add_finish_at(
     add_finish(page, updates, place + 1, finish)
 }
 
-/// Adds the updates that came to their ends, the first of them number 1.
+/// Adds the lines of the updates that have ended; the first has number 1.
 pub(crate) fn with_finishes(
     mut page: Page,
     updates: &SessionUpdates,

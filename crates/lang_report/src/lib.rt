@@ -1,7 +1,7 @@
-//! The texts that tell of a run: the result text, and a question on its own.
+//! The texts of a run: the result text, and a question on its own.
 //!
-//! Each line is words laid out as those of a session, on one `Page`. A contract says which lines a page has gained, by
-//! the definitions of `specs/Results.antt`.
+//! The words of each line are laid out on a `Page`, as in a session. A contract says which lines a page has gained, by the
+//! definitions of `specs/Results.antt`.
 #![tactic(auto)]
 
 mod finishes;

@@ -11,7 +11,7 @@ use base_types::{MappingList, Memory};
 use lang_schema::Page;
 use lang_session::SessionUpdates;
 
-// A number and two names.
+// Adds a number and two names.
 fn add_names(page: &mut Page, number: usize, label: &[u8], curator: &[u8]) -> Result<(), Memory>
     requires { number < 2 ^ 63 }
     ensures { OnOk result (HasWords page.old (word_of.number (pos number) ∷ word_of.name label.now ∷
@@ -46,7 +46,7 @@ pub(crate) fn add_update(
     }
 }
 
-/// The name of the mapping of a number; nothing where there is none.
+/// The name of the mapping of this number; the empty name if there is none.
 pub(crate) fn mapping_name(mappings: &MappingList, number: u16) -> &[u8]
     ensures { result.now ≡ name_of (mapping_names (mappings_of mappings.now)) number }
 {

@@ -30,7 +30,7 @@ fn with_candidates(mut page: Page, schema: &Schema, tuples: &[Tuple]) -> Result<
     Ok(page)
 }
 
-// A positive question by the name of its mapping.
+// Adds a positive question, with the name of its mapping.
 fn with_positive(
     page: Page,
     schema: &Schema,
@@ -49,7 +49,7 @@ fn with_positive(
     with_candidates(told, schema, candidates)
 }
 
-// A negative question by the name of its mapping.
+// Adds a negative question, with the name of its mapping.
 fn with_negative(
     page: Page,
     schema: &Schema,
@@ -67,7 +67,7 @@ fn with_negative(
     with_candidates(told, schema, tuples)
 }
 
-/// Adds a question, and then its candidates, or the tuples of which some have to go.
+/// Adds a question, and then its candidates, or the tuples of which some must be deleted.
 pub(crate) fn with_question(
     page: Page,
     session: &Session,
@@ -112,7 +112,7 @@ pub(crate) fn with_stop(page: Page, session: &Session, stop: &Stop) -> Result<Pa
     with_question(told, session, &stop.question)
 }
 
-/// Adds the stop, where there is one.
+/// Adds the stop, if there is one.
 pub(crate) fn with_stop_in(
     page: Page,
     session: &Session,

@@ -1,4 +1,4 @@
-//! The nulls of a repository, named as those of a base.
+//! The nulls of a repository, renamed as nulls of a base.
 
 ghost use Rattle.std.specs.Prelude.{◌≡◌, map, flat_map, fold, count_by, IfOk, OnOk};
 ghost use Rattle.std.specs.BTreeSet.{insert_key};
@@ -12,7 +12,7 @@ use base_types::{List, Memory, Null, TryCopy, Tuple, TupleList, Value};
 use std::alloc::Global;
 use std::collections::BTreeSet;
 
-// Notes the null that a value is, if it is one.
+// Notes the value if it is a null.
 fn note_value(nulls: &mut BTreeSet<Null>, value: &Value) -> Result<(), Memory>
     ensures { OnOk result (map null_of nulls.new.keys ≡
         fold (insert_key null_cmp) (map null_of nulls.old.keys) (null_in (datum_of value.now))) }
@@ -66,7 +66,7 @@ fn listed(alloc: Global, nulls: &BTreeSet<Null>) -> Result<List<Null>, Memory>
     Ok(list)
 }
 
-// How many of the nulls are less.
+// The number of nulls that are less.
 fn rank(nulls: &[Null], null: Null) -> usize
     requires { IsStrictlySortedBy (on null_of null_cmp) nulls.now }
     ensures { result ≡ count_by (λ m. is_lt (null_cmp m (null_of null))) (map null_of nulls.now) }
@@ -74,7 +74,7 @@ fn rank(nulls: &[Null], null: Null) -> usize
     nulls.partition_point(|other| other.cmp(&null).is_lt())
 }
 
-// The null by its rank. A rank that no null of a base can have is want of memory.
+// The null of a base for this one, by its rank. A rank that is too great for a null of a base is reported as want of memory.
 fn base_null(nulls: &[Null], null: Null) -> Result<Null, Memory>
     requires { IsStrictlySortedBy (on null_of null_cmp) nulls.now }
     ensures { IfOk result (λ n. null_of n ≡ base_null (map null_of nulls.now) (null_of null)) }
@@ -116,7 +116,7 @@ fn base_fact(alloc: Global, nulls: &[Null], tuple: &Tuple) -> Result<Tuple, Memo
     Tuple::new(alloc, tuple.relation, values)
 }
 
-/// The tuples of a repository as those of a base.
+/// The tuples of a repository as tuples of a base.
 pub(crate) fn saved_base(alloc: Global, tuples: &[Tuple]) -> Result<TupleList, Memory>
     ensures { IfOk result (λ base. map fact_of base.items ≡ saved_base (map fact_of tuples.now)) }
 {

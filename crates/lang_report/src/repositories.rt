@@ -38,7 +38,7 @@ pub(crate) fn with_repository(page: Page, schema: &Schema, tuples: &[Tuple]) -> 
     with_tuples(counted, schema, tuples)
 }
 
-/// Adds how many of the updates came to their ends.
+/// Adds the number of updates that have ended.
 pub(crate) fn with_committed(
     page: Page,
     finishes: &[Finish],

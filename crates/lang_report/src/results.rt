@@ -27,8 +27,8 @@ fn with_title(page: Page) -> Result<Page, Memory>
         .end_line()
 }
 
-/// The result text of a session and of what is told of its run: each update that came to its end, the question at which the run
-/// stopped, if it did, the repository, and how many updates came to their ends.
+/// The result text of a session and the result of its run: each update that has ended, the question at which the run stopped, if
+/// it did, the repository, and the number of updates that have ended.
 pub fn result_text(
     alloc: Global,
     session: &Session,
@@ -47,7 +47,7 @@ pub fn result_text(
     Ok(whole.into_text())
 }
 
-/// The lines of a question alone.
+/// The lines of one question.
 pub fn question_lines(
     alloc: Global,
     session: &Session,

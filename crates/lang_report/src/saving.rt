@@ -1,4 +1,4 @@
-//! The saved session, and why it is refused.
+//! The saved session, and the reasons to refuse it.
 
 ghost use Rattle.std.specs.Prelude.{◌≡◌, false, ◌||◌, nat_lt, [], ◌∷◌, ◌++◌, map, IfOk, IfErr, IfSome, IfNone, OnOk, OnErr};
 ghost use Rattle.std.specs.Option.{option_map, option_copied};
@@ -21,13 +21,13 @@ use std::alloc::Global;
 /// The most tuples that a saved session may have.
 const MOST_TUPLES: u64 = 100_000;
 
-/// The most bytes that its printed form may have.
+/// The most bytes that the printed form of a saved session may have.
 const MOST_PRINTED: u64 = MOST_BYTES as u64;
 
 /// Why a session is not saved.
 #[derive(Debug, Drop)]
 pub enum SaveRefusal {
-    /// It has more than 100,000 tuples, or its printed form more than 16,777,216 bytes.
+    /// The session has more than 100,000 tuples, or its printed form has more than 16,777,216 bytes.
     TooLarge { tuples: u64, bytes: u64 },
     /// There was not enough memory.
     Memory,
@@ -41,7 +41,7 @@ impl From<Memory> for SaveRefusal {
     }
 }
 
-// Whether the update that ended so is done.
+// Whether the update has ended, and is done.
 fn is_done(finish: Option<&Finish>) -> bool
     ensures { result ≡ is_done_in (option_map finish_of (option_copied finish.entry)) }
 {
@@ -73,7 +73,7 @@ fn from_start(alloc: Global, mapping: &Mapping) -> Result<Mapping, Memory>
     Ok(kept)
 }
 
-// Adds a copy of the mapping, where it is in force in the end.
+// Adds a copy of the mapping, if it is in force in the end.
 fn keep(
     alloc: Global,
     kept: &mut MappingList,
@@ -106,7 +106,7 @@ fn saved_mappings(
     Ok(kept)
 }
 
-// Makes the session the saved one, of any size. If it is refused, it is as it was.
+// Turns the session into the saved one, of any size. If it is refused, the session is unchanged.
 fn begin_anew(alloc: Global, session: &mut Session, told: &SessionResult) -> Result<(), Memory>
     ensures anew { OnOk result (session_of session.new ≡
         saved (session_of session.old) (result_of told.now)) }
@@ -121,14 +121,14 @@ fn begin_anew(alloc: Global, session: &mut Session, told: &SessionResult) -> Res
     Ok(())
 }
 
-// Whether so many tuples or so many bytes are too many.
+// Whether these are too many tuples or too many bytes.
 fn is_over(tuples: u64, bytes: u64) -> bool
     ensures { result ≡ (nat_lt 100000 tuples || nat_lt 16777216 bytes) }
 {
     MOST_TUPLES < tuples || MOST_PRINTED < bytes
 }
 
-// The refusal of a session that is too large; None where it is not.
+// The refusal of a session that is too large; None if it is not.
 fn too_large(alloc: Global, session: &Session) -> Result<Option<SaveRefusal>, Memory>
     ensures refused { IfOk result (λ found.
         IfSome found (λ refusal. Refuses refusal (session_of session.now))) }
@@ -144,9 +144,9 @@ fn too_large(alloc: Global, session: &Session) -> Result<Option<SaveRefusal>, Me
     Ok(None)
 }
 
-/// The session that begins with what a run left: of format 2, with the relations of the session that ran, the mappings
-/// in force in the end, the repository as its base, and no updates. It is refused as too large exactly where it has
-/// more than 100,000 tuples or its printed form more than 16,777,216 bytes; both numbers are told.
+/// The session that begins with the result of a run: of format 2, with the relations of the session that ran, the mappings in
+/// force in the end, the repository as its base, and no updates. It is refused as too large exactly if it has more than 100,000
+/// tuples or its printed form more than 16,777,216 bytes; the refusal has both numbers.
 pub fn saved(
     alloc: Global,
     mut session: Session,

@@ -1,4 +1,4 @@
--- What mappings stand for: as they are written, and over the relations.
+-- The meanings of mappings: as they are written, and over the relations.
 use Rattle.std.specs.Prelude.{map}
 use Rattle.lang_schema.specs.declared.written.RawTerm.{RawTerm}
 use Rattle.lang_schema.specs.declared.written.RawTerm.TheVariants.{Var, Const}
@@ -18,7 +18,7 @@ term_of (Const v) = Constant (datum_of v)
 abbrev pub atom_of : RawAtom → WrittenAtom
 atom_of a = record { relation = a.relation.items; terms = map term_of a.terms.items }
 
--- the mapping that its two sides stand for, by the name of the left one
+-- the mapping that the two sides stand for, with the name of the left one
 abbrev pub mapping_written : RawAtoms → RawAtoms → WrittenMapping
 mapping_written left right = record { name = left.name.items; left = map atom_of left.atoms.items; right = map atom_of right.atoms.items }
 

@@ -3,13 +3,12 @@ use Rattle.std.specs.Prelude.{ℕ, Bool, false, ◌&&◌, ◌==◌, not, List, [
 use Rattle.def_language.specs.Words.{Word}
 use Rattle.def_language.specs.Layout.{spelled, is_open, is_tight}
 
--- A text, and whether a space comes between it and a word that may stand apart: not at the start of a line, and not
--- behind `(`.
+-- A text, and whether a space comes between it and a word that may stand apart: not at the start of a line, and not after `(`.
 pub record Written : Type 0 where
   pub text : List ℕ
   pub apart : Bool
 
--- nothing
+-- the empty page
 abbrev pub blank : Written
 blank = record { text = []; apart = false }
 

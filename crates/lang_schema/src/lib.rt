@@ -1,10 +1,9 @@
-//! The relations of a session by name, the checks of a mapping against them, the printed form of tuples
-//! and mappings, and names that are found by their hash.
+//! The relations of a session by name, the checks of a mapping against them, the printed form of tuples and mappings, and lists
+//! of names with a search by hash.
 //!
-//! A `Schema` is seen as the list of its relations, in the order of their numbers. Each call says what
-//! it answers by the definitions of `def_language`, which speak of such a list: `Gives view result read`
-//! means that an answer, seen by `view`, is the one that is read by definition, that a refusal other
-//! than want of memory is the fault that is read, and that want of memory may come in place of any
+//! Contracts see a `Schema` as the list of its relations, by number. They state the answer of each call by the definitions of
+//! `def_language`, which speak of such a list. `Gives view result read` means: an answer, seen by `view`, is the one that the
+//! definition `read` gives; a refusal other than `Memory` is the fault that `read` gives; and `Memory` may come in place of any
 //! answer.
 #![tactic(auto)]
 

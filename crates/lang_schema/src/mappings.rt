@@ -87,9 +87,9 @@ fn atoms_of(
     Ok(found)
 }
 
-/// Atoms with relations and variables by number, and the names of the variables in the order of their numbers.
-/// Variables are numbered by first occurrence. The atoms are refused at the first from the left whose relation is not
-/// known or has another number of columns.
+/// Atoms with relations and variables by number, and the names of the variables in the order of their numbers. Variables are
+/// numbered by first occurrence. They are refused at the first atom from the left whose relation is not known or has another
+/// number of columns.
 #[tactic(auto, unfolding(crate::specs::Relations::numbered_atoms))]
 pub fn numbered_atoms(
     alloc: Global,
@@ -105,7 +105,7 @@ pub fn numbered_atoms(
     Ok((found, variables.into_names()))
 }
 
-// Notes the variables of both sides, and gives how many are universal.
+// Notes the variables of both sides, and returns the number of universal ones.
 fn note_sides(
     alloc: Global,
     variables: &mut Variables,
@@ -126,7 +126,7 @@ fn note_sides(
     Ok(universal)
 }
 
-// A mapping over its variables, whose sides have been found to fit.
+// A mapping over its variables. Its sides must have been found to fit.
 #[tactic(auto, unfolding(crate::specs::Relations::mapping_over))]
 fn mapping_with(
     alloc: Global,
@@ -157,7 +157,7 @@ fn mapping_with(
     })
 }
 
-// A mapping whose sides have been found to fit.
+// A mapping. Its sides must have been found to fit.
 fn mapping_over(
     alloc: Global,
     schema: &Schema,
@@ -173,10 +173,9 @@ fn mapping_over(
     mapping_with(alloc, schema, &variables, universal, since, left, right)
 }
 
-/// Checks a mapping that the update of the given number puts in force, or that is in force from the
-/// start where that number is 0. Its two sides name one mapping. It is refused where a side has no
-/// atom, then where a side has more than 8, and then at the first atom from the left whose relation is
-/// not known or has another number of columns. The variables are numbered by first occurrence.
+/// Checks a mapping that update number `since` puts in force, or that is in force from the start if `since` is 0. Both sides must
+/// have the mapping's name. It is refused if a side has no atom, then if a side has more than 8, and then at the first atom from
+/// the left whose relation is not known or has another number of columns. The variables are numbered by first occurrence.
 pub fn check_added_mapping(
     alloc: Global,
     schema: &Schema,

@@ -1,4 +1,4 @@
-//! Names, each once, that are found by their hash.
+//! Names, each once, with a search by hash.
 
 ghost use Rattle.std.specs.Prelude.{◌≡◌, ◌<◌, ◌≤◌, [], length, map, position, IfOk, IfSome, IsOk, OnOk, OnErr};
 ghost use Rattle.def_language.specs.Names.{is_one_of, same_name, with_new};
@@ -8,7 +8,7 @@ use indexmap::IndexSet;
 use std::alloc::Global;
 use std::marker::Model;
 
-/// Names, each once, in the order in which they came. Contracts see them as a list, with how many more it
+/// Names, each once, in the order in which they came. Contracts see them as a list, with the number of further names that it
 /// takes before it asks for memory.
 #[derive(Drop)]
 pub struct Names {
@@ -35,14 +35,14 @@ impl Names {
         }
     }
 
-    /// How many names there are.
+    /// The number of names.
     pub fn len(&self) -> usize
         ensures length { result ≡ length self.now.items }
     {
         self.names.len()
     }
 
-    /// The place of a name, counted from 0; None exactly where it is none of them.
+    /// The place of a name, counted from 0; None exactly if it is not in the list.
     pub fn find(&self, name: &Name) -> Option<usize>
         ensures place { result ≡ position (same_name name.now.items) self.now.items }
         ensures within { IfSome result (λ place. place < length self.now.items) }
@@ -50,7 +50,7 @@ impl Names {
         self.names.get_index_of(name.as_slice())
     }
 
-    /// Whether a name is one of them.
+    /// Whether the name is in the list.
     pub fn has(&self, name: &Name) -> bool
         ensures one { result ≡ is_one_of self.now.items name.now.items }
     {
@@ -66,8 +66,8 @@ impl Names {
         Ok(())
     }
 
-    /// Adds a name at the end, unless it is there. It is refused only for want of memory, never where
-    /// `spare` is at least 1; the names then stay as they are.
+    /// Adds a name at the end, unless it is there. It is never refused if `spare` is at least 1. If it is refused, the names are
+    /// unchanged.
     pub fn note(&mut self, name: Vec<u8>) -> Result<(), Memory>
         ensures ok { OnOk result (self.new.items ≡ with_new same_name self.old.items name.items) }
         ensures err { OnErr result (self.new.items ≡ self.old.items) }

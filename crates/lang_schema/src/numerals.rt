@@ -18,8 +18,8 @@ pub(crate) fn push_number(out: &mut Vec<u8>, number: i64) -> Result<(), AllocErr
     push_long(out, number)
 }
 
-/// A number that is not negative in plain decimal. Short ones go digit by digit, which costs less than a buffer and the copy
-/// from it.
+/// Adds a number that is not negative in plain decimal. Short ones go digit by digit, which costs less than filling and copying a
+/// buffer.
 pub(crate) fn push_natural(out: &mut Vec<u8>, number: u32) -> Result<(), AllocError>
     ensures ok { OnOk result (out.new.items ≡ out.old.items ++ decimal number) }
     ensures err { OnErr result (IsPrefix out.old.items out.new.items) }
@@ -39,7 +39,7 @@ pub(crate) fn push_natural(out: &mut Vec<u8>, number: u32) -> Result<(), AllocEr
     push_long(out, i64::from(number))
 }
 
-// A number of any length. Never inlined, so that short ones save no registers for it.
+// Adds a number of any length. Never inlined, so that short ones need not save registers for it.
 #[inline(never)]
 fn push_long(out: &mut Vec<u8>, number: i64) -> Result<(), AllocError>
     ensures ok { OnOk result (out.new.items ≡ out.old.items ++ signed_decimal number) }
@@ -57,7 +57,7 @@ fn glyph(digit: u32) -> u8
     b'0' + digit as u8
 }
 
-// A number of one digit.
+// Adds a number of one digit.
 fn push_one(out: &mut Vec<u8>, number: u32) -> Result<(), AllocError>
     requires { number < 10 }
     ensures ok { OnOk result (out.new.items ≡ out.old.items ++ decimal number) }
@@ -67,7 +67,7 @@ fn push_one(out: &mut Vec<u8>, number: u32) -> Result<(), AllocError>
     Ok(())
 }
 
-// A number of two digits.
+// Adds a number of two digits.
 fn push_two(out: &mut Vec<u8>, number: u32) -> Result<(), AllocError>
     requires low { 10 ≤ number }
     requires high { number < 100 }
@@ -78,7 +78,7 @@ fn push_two(out: &mut Vec<u8>, number: u32) -> Result<(), AllocError>
     push_one(out, number % 10)
 }
 
-// A number of three digits.
+// Adds a number of three digits.
 fn push_three(out: &mut Vec<u8>, number: u32) -> Result<(), AllocError>
     requires low { 100 ≤ number }
     requires high { number < 1000 }
@@ -89,7 +89,7 @@ fn push_three(out: &mut Vec<u8>, number: u32) -> Result<(), AllocError>
     push_one(out, number % 10)
 }
 
-// A number of four digits.
+// Adds a number of four digits.
 fn push_four(out: &mut Vec<u8>, number: u32) -> Result<(), AllocError>
     requires low { 1000 ≤ number }
     requires high { number < 10000 }

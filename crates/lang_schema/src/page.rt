@@ -16,9 +16,8 @@ use base_types::{Memory, Tuple, Value};
 use std::alloc::{AllocError, Global};
 use std::marker::Model;
 
-/// Text that grows word by word. A space comes between two words, but none behind `(` and none before
-/// `(`, `)`, `,` and `:`. A call that wants memory takes the page with it, or leaves some of its word on a page that it
-/// was lent.
+/// Text that grows word by word. A space comes between two words, but none after `(` and none before `(`, `)`, `,` and `:`. If
+/// memory runs out, a call that owns the page drops it, and one that borrows it may leave part of its word on it.
 #[derive(Drop)]
 pub struct Page {
     text: Vec<u8>,
@@ -43,7 +42,7 @@ fn push_space(out: &mut Vec<u8>, apart: bool) -> Result<(), AllocError>
 }
 
 impl Page {
-    /// The page with nothing on it.
+    /// The empty page.
     pub fn new(alloc: Global) -> Page
         ensures blank { result ≡ blank }
     {
@@ -53,7 +52,7 @@ impl Page {
         }
     }
 
-    /// Makes room for so many bytes more. What is on the page stays.
+    /// Makes room for `more` further bytes. The text stays as it is.
     pub fn reserve(&mut self, more: usize) -> Result<(), Memory>
         ensures same { self.new ≡ self.old }
     {
@@ -101,7 +100,7 @@ impl Page {
         Ok(())
     }
 
-    /// Adds a tuple: the name of its relation, and its values in parentheses with commas between.
+    /// Adds a tuple: the name of its relation, and its values in parentheses with commas between them.
     pub fn add_tuple(&mut self, schema: &Schema, tuple: &Tuple) -> Result<(), Memory>
         ensures words { OnOk result (self.new ≡
             with_words self.old (fact_words (written_fact schema.now (fact_of tuple.now)))) }

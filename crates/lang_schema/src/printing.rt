@@ -32,7 +32,7 @@ fn push_others(out: &mut Vec<u8>, inner: bool, values: &[Value]) -> Result<(), A
     Ok(())
 }
 
-// Adds values with a comma and a space between.
+// Adds values with a comma and a space between them.
 fn push_all(out: &mut Vec<u8>, inner: bool, values: &[Value]) -> Result<(), AllocError>
     ensures ok { OnOk result (out.new.items ≡
         out.old.items ++ joined_text (value_text inner) (map datum_of values.now)) }
@@ -47,7 +47,7 @@ fn push_all(out: &mut Vec<u8>, inner: bool, values: &[Value]) -> Result<(), Allo
     }
 }
 
-/// Adds values with a comma and a space between, nulls by their inner names where `inner` asks for them. If it is refused, the
+/// Adds values with a comma and a space between them, with nulls by their inner names if `inner` holds. If it is refused, the
 /// text is unchanged.
 pub fn push_values(out: &mut Vec<u8>, inner: bool, values: &[Value]) -> Result<(), AllocError>
     ensures ok { OnOk result (out.new.items ≡
@@ -97,8 +97,8 @@ fn push_tuple(
 }
 
 /// The printed form of a tuple: the name of its relation and its values, as a session spells them. Nulls have their outer names
-/// `?u.k`, or where `inner` asks for them their inner names `?u.k@a`. A tuple of relation 65,535, which says that a mapping was
-/// put in force, is `*` and that mapping's number.
+/// `?u.k`, or if `inner` holds their inner names `?u.k@a`. A tuple of relation 65,535, which says that a mapping was put in
+/// force, is `*` and that mapping's number.
 pub fn print_tuple(
     alloc: Global,
     schema: &Schema,

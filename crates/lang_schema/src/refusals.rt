@@ -25,7 +25,7 @@ pub enum SchemaRefusal {
     TooManyAtoms,
     /// A relation has this name already.
     DuplicateName(Name),
-    /// The number of columns is none of 1 to 8, or there is no room for one more relation.
+    /// The number of columns is not from 1 to 8, or there is no room for one more relation.
     Limit(Which),
     /// There was not enough memory.
     Memory,
@@ -55,7 +55,7 @@ impl<T: Drop> From<AllocFailed<T>> for SchemaRefusal {
     }
 }
 
-/// A call that hands its argument back beside `Memory`, where the caller has no more use for it.
+/// The refusal of a call that hands its argument back with `Memory`, if the caller has no more use for the argument.
 impl<T: Drop> From<(T, Memory)> for SchemaRefusal {
     ghost from_gives = { λ _ refusal. refusal ≡ WantOfMemory };
 

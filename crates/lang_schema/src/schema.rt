@@ -51,14 +51,14 @@ impl Schema {
         }
     }
 
-    /// How many relations there are.
+    /// The number of relations.
     pub fn len(&self) -> u16
         ensures length { result ≡ length self.now }
     {
         self.relations.len() as u16
     }
 
-    /// The number of the relation of a name; None exactly where there is none. It looks the name up by its hash.
+    /// The number of the relation with this name; None exactly if there is none. The search is by hash.
     pub fn find(&self, name: &Name) -> Option<u16>
         ensures place { result ≡ position (same_name name.now.items) (relation_names self.now) }
     {
@@ -68,8 +68,7 @@ impl Schema {
         }
     }
 
-    /// How many columns a relation has; None exactly where no relation has the number. It takes no
-    /// memory.
+    /// The number of columns of a relation; None exactly if no relation has the number.
     pub fn arity(&self, relation: u16) -> Option<u16>
         ensures arity { result ≡ option_map (λ r. r.arity) (slice_get self.now relation) }
     {
@@ -79,7 +78,7 @@ impl Schema {
         }
     }
 
-    /// The name of a relation; nothing where no relation has the number.
+    /// The name of a relation; the empty name if no relation has the number.
     pub fn name(&self, relation: u16) -> &[u8]
         ensures name { result.now ≡ name_of (relation_names self.now) relation }
     {
@@ -89,9 +88,8 @@ impl Schema {
         }
     }
 
-    /// Adds a relation, which takes the next number. It is refused as `relation NAME NUMBER` is in a
-    /// session of format 2: where the name is taken, where the arity is none of 1 to 8, and where there
-    /// are 128 relations, in this order.
+    /// Adds a relation, which takes the next number. It is refused as `relation NAME NUMBER` is in a session of format 2: if the
+    /// name is taken, if the arity is not from 1 to 8, and if there are 128 relations, in this order.
     pub fn relation(&mut self, name: Name, arity: u16) -> Result<u16, SchemaRefusal>
         ensures checked { Gives (λ _. with_relations self.new) result
             (add_relation (with_relations self.old) name.items (pos arity)) }
@@ -112,8 +110,8 @@ impl Schema {
         Ok(number)
     }
 
-    /// The number of the relation of a name that is used with so many columns. It is refused where no
-    /// relation has the name, and then where the relation has another number of columns.
+    /// The number of the relation with this name that is used with `columns` columns. It is refused if no relation has the name,
+    /// and then if the relation has another number of columns.
     pub fn relation_of(
         &self,
         alloc: Global,

@@ -1,4 +1,4 @@
-//! How nulls, texts and values are spelled.
+//! The spelling of nulls, texts and values.
 
 ghost use Rattle.std.specs.Prelude.{◌≡◌, ◌++◌, ◌∷◌, [], OnOk, OnErr, flat_map};
 ghost use Rattle.std.specs.List.{list_all};
@@ -10,28 +10,30 @@ ghost use mathlib.Core.List.{IsPrefix};
 
 use crate::numerals::{push_natural, push_number};
 use crate::plain::push_plain;
-use base_types::{Null, Value};
+use base_types::{Null, OuterName, Value};
 use std::alloc::AllocError;
 
-/// The null of an update and a place.
-pub(crate) fn push_null(out: &mut Vec<u8>, update: u32, place: u32) -> Result<(), AllocError>
-    ensures ok { OnOk result (out.new.items ≡ out.old.items ++ null_text update place) }
+// Adds the null of this name.
+fn push_null(out: &mut Vec<u8>, name: OuterName) -> Result<(), AllocError>
+    ensures ok { OnOk result (out.new.items ≡
+        out.old.items ++ null_text name.update name.place) }
     ensures err { OnErr result (IsPrefix out.old.items out.new.items) }
 {
     out.push(b'?')?;
-    push_natural(out, update)?;
+    push_natural(out, name.update)?;
     out.push(b'.')?;
-    push_natural(out, place)
+    push_natural(out, name.place)
 }
 
-// A null by its outer name, or by its inner name with the attempt. Never inlined, so that numbers save no registers for it.
+// Adds a null by its outer name, or by its inner name with the attempt. Never inlined, so that numbers need not save registers
+// for it.
 #[inline(never)]
 fn push_null_name(out: &mut Vec<u8>, inner: bool, null: Null) -> Result<(), AllocError>
     ensures ok { OnOk result (out.new.items ≡
         out.old.items ++ null_name_text inner (null_of null)) }
     ensures err { OnErr result (IsPrefix out.old.items out.new.items) }
 {
-    push_null(out, null.update, null.place)?;
+    push_null(out, null.outer_name())?;
     if !inner {
         return Ok(());
     }
@@ -39,7 +41,7 @@ fn push_null_name(out: &mut Vec<u8>, inner: bool, null: Null) -> Result<(), Allo
     push_natural(out, null.attempt)
 }
 
-// A byte of a text.
+// Adds a byte of a text.
 fn push_byte(out: &mut Vec<u8>, byte: u8) -> Result<(), AllocError>
     ensures ok { OnOk result (out.new.items ≡ out.old.items ++ written_byte byte) }
     ensures err { OnErr result (IsPrefix out.old.items out.new.items) }
@@ -57,7 +59,7 @@ fn push_byte(out: &mut Vec<u8>, byte: u8) -> Result<(), AllocError>
     Ok(())
 }
 
-// The bytes of a text one by one.
+// Adds the bytes of a text one by one.
 fn push_bytes(out: &mut Vec<u8>, text: &[u8]) -> Result<(), AllocError>
     ensures ok { OnOk result (out.new.items ≡ out.old.items ++ flat_map written_byte text.now) }
     ensures err { OnErr result (IsPrefix out.old.items out.new.items) }
@@ -75,14 +77,14 @@ fn is_plain(byte: u8) -> bool
     byte != b'"' && byte != b'\\' && byte != b'\n'
 }
 
-// Whether each byte of the text is.
+// Whether each byte of the text is written as it is.
 fn is_plain_text(text: &[u8]) -> bool
     ensures { result ≡ list_all is_plain text.now }
 {
     text.iter().all(|byte| is_plain(*byte))
 }
 
-// A text without its quotes.
+// Adds a text without its quotes.
 fn push_inside(out: &mut Vec<u8>, text: &[u8]) -> Result<(), AllocError>
     ensures ok { OnOk result (out.new.items ≡ out.old.items ++ flat_map written_byte text.now) }
     ensures err { OnErr result (IsPrefix out.old.items out.new.items) }
@@ -93,7 +95,7 @@ fn push_inside(out: &mut Vec<u8>, text: &[u8]) -> Result<(), AllocError>
     push_bytes(out, text)
 }
 
-/// A text in its quotes. Never inlined, as nulls are not.
+/// Adds a text in quotes. Never inlined, for the same reason as nulls.
 #[inline(never)]
 pub(crate) fn push_text(out: &mut Vec<u8>, text: &[u8]) -> Result<(), AllocError>
     ensures ok { OnOk result (out.new.items ≡ out.old.items ++ quoted text.now) }
@@ -105,7 +107,7 @@ pub(crate) fn push_text(out: &mut Vec<u8>, text: &[u8]) -> Result<(), AllocError
     Ok(())
 }
 
-/// A value, nulls by their inner names where that is asked for.
+/// Adds a value, a null by its inner name if `inner` holds.
 pub(crate) fn push_value(out: &mut Vec<u8>, inner: bool, value: &Value) -> Result<(), AllocError>
     ensures ok { OnOk result (out.new.items ≡
         out.old.items ++ value_text inner (datum_of value.now)) }

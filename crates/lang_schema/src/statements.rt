@@ -13,7 +13,7 @@ use crate::page::Page;
 use crate::schema::Schema;
 use base_types::{Atom, Mapping, Memory, Name, Term};
 
-// The name of a variable; nothing where there is none of that number.
+// The name of a variable; the empty name if no variable has the number.
 fn name_of(names: &[Name], variable: u16) -> &[u8]
     ensures { result.now ≡ name_of (map (λ n. n.items) names.now) variable }
 {
@@ -123,7 +123,7 @@ fn with_atoms(page: Page, schema: &Schema, names: &[Name], atoms: &[Atom]) -> Re
     }
 }
 
-// Both sides with the arrow between.
+// Adds both sides with the arrow between them.
 fn with_sides(
     page: Page,
     schema: &Schema,

@@ -36,14 +36,14 @@ impl Variables {
         }
     }
 
-    /// How many names there are.
+    /// The number of names.
     pub(crate) fn len(&self) -> usize
         ensures { result ≡ length self.now }
     {
         self.names.len()
     }
 
-    // The number of a name, or how many there are where it is none of them.
+    // The number of a name, or the number of names if it is not there.
     fn place_of(&self, name: &Name) -> usize
         ensures { result ≡ place_of self.now name.now.items }
     {

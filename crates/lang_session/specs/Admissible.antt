@@ -1,4 +1,4 @@
--- Which operations may be admitted behind the updates of a session.
+-- The operations that may be admitted after the updates of a session.
 use Rattle.std.specs.Prelude.{ℕ, ◌^◌, ◌<◌, ◌&&◌, ◌==◌, nat_le, Bool, true, false, List, length, Option, Some, None, slice_get}
 use Rattle.std.specs.List.{AllByRecursion, list_all}
 use Rattle.std.specs.Str.Lossy.{utf8_valid_len}
@@ -15,13 +15,13 @@ abbrev pub AddsNoMapping : Operation → Type 0
 AddsNoMapping (Enacts place) = ⊥
 AddsNoMapping op = Unit {0}
 
--- It may stand in a session behind so many updates, and puts no mapping in force.
+-- The operation may stand in a session after `before` updates, and puts no mapping in force.
 abbrev pub IsAdmissible : List RelationSchema → ℕ → Operation → Type 0
 IsAdmissible relations before op = IsOperation relations before op × AddsNoMapping op
 
 -- ---- as a test
 
--- a null is named by its outer form, and comes from one of so many updates
+-- a null is named by its outer form, and comes from one of the first `before` updates
 abbrev pub fits_null : ℕ → NullName → Bool
 fits_null before n = (n.attempt == 0) && nat_le n.update before
 
@@ -38,7 +38,7 @@ fits_datum before (Number z) = true
 fits_datum before (Text t) = fits_text t
 fits_datum before (Unknown n) = fits_null before n
 
--- the relation has so many columns
+-- the relation exists and has `columns` columns
 abbrev pub has_columns : Option RelationSchema → ℕ → Bool
 has_columns None columns = false
 has_columns (Some r) columns = r.arity == columns
@@ -46,7 +46,7 @@ has_columns (Some r) columns = r.arity == columns
 abbrev pub fits_fact : List RelationSchema → ℕ → Fact → Bool
 fits_fact relations before t = has_columns (slice_get relations t.relation) (length t.values) && list_all (fits_datum before) t.values
 
--- The operation may be admitted behind so many updates.
+-- The operation may be admitted after `before` updates.
 abbrev pub admits : List RelationSchema → ℕ → Operation → Bool
 admits relations before (Adds t) = fits_fact relations before t
 admits relations before (Removes t) = fits_fact relations before t

@@ -1,4 +1,4 @@
--- Why a session that some bytes spell is one for the chase.
+-- Laws of valid sessions: they meet the premises of the chase.
 use Rattle.std.specs.Prelude.{◌≡◌, None}
 use Rattle.def_chase.specs.Mappings.{AllHold}
 use Rattle.def_chase.specs.Laws.{HaveNoNulls}
@@ -14,6 +14,6 @@ pub record SuitTheChase : Type 0 where
   pub no_nulls : (s : SessionData) → IsSession s → HaveNoNulls (rules_of s.mappings)
   pub timely : (s : SessionData) → IsSession s → IsTimely (rules_of s.mappings) s.base (requests_in s)
 
--- Where the base of a valid session violates no mapping that is in force from the start, all mappings in force hold in it.
+-- If the base of a valid session violates no mapping that is in force from the start, all mappings in force hold in it.
 abbrev pub BaseHolds : Type 0
 BaseHolds = (s : SessionData) → IsSession s → base_violation s ≡ None → AllHold (rules_of s.mappings) s.base

@@ -1,4 +1,4 @@
--- What a session of the program stands for, in the terms of the language of sessions and of the chase.
+-- The meaning of a session of the program, in the terms of the language of sessions and of the chase.
 use Rattle.std.specs.Prelude.{List, map}
 use Rattle.base_types.specs.Meanings.{fact_of, operation_of, choice_of}
 use Rattle.def_steps.specs.Serial.{Request}
@@ -29,10 +29,10 @@ session_of s =
       updates = map update_of s.updates.items;
     }
 
--- what the chase sees of an update: its operation and its answers
+-- an update as the chase sees it: its operation and its answers
 abbrev pub request_of : meant.SessionUpdate → Request
 request_of u = record { operation = u.operation; answers = u.answers }
 
--- what the chase sees of a session's updates
+-- the updates of a session as the chase sees them
 abbrev pub requests_in : SessionData → List Request
 requests_in s = map request_of s.updates

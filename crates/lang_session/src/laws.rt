@@ -7,8 +7,8 @@ pub fn sessions_suit_the_chase()
     ensures { SuitTheChase }
 {}
 
-/// Where the base of a valid session violates no mapping that is in force from the start, all mappings in force hold in
-/// it: the premise of the serial machine's laws.
+/// If the base of a valid session violates no mapping that is in force from the start, all mappings in force hold in it, which is
+/// the premise of the serial machine's laws.
 pub fn base_holds()
     ensures { BaseHolds }
 {}

@@ -1,8 +1,7 @@
 //! A session as the program holds it: relations, mappings, base tuples, updates with their answers.
 //!
-//! `specs/Meanings.antt` says what it stands for in the terms of `def_language`: `session_of` gives the session as
-//! pure data. Whether some bytes spell it is `IsSession` of its meaning. `specs/Base.antt` says when the base of a
-//! session violates a mapping.
+//! `specs/Meanings.antt` gives its meaning in the terms of `def_language`: `session_of` is the session as pure data. `IsSession`
+//! says of this meaning that some bytes spell it. `specs/Base.antt` says when the base of a session violates a mapping.
 #![tactic(auto)]
 
 mod admission;

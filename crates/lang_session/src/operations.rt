@@ -7,7 +7,7 @@ use crate::values::{fits_null, fits_value, fits_values};
 use base_types::{Operation, Tuple};
 use lang_schema::Schema;
 
-// The relation of the tuple is known, with as many columns, and its values may stand in an operation.
+// Whether the relation of the tuple is known, has as many columns as the tuple has values, and these may stand in an operation.
 fn fits_tuple(schema: &Schema, before: u32, tuple: &Tuple) -> bool
     ensures { result ≡ fits_fact schema.now before (fact_of tuple.now) }
 {
@@ -20,7 +20,7 @@ fn fits_tuple(schema: &Schema, before: u32, tuple: &Tuple) -> bool
     fits_values(before, tuple.values.as_slice())
 }
 
-/// Whether an operation may be admitted behind so many updates: it fits the relations, its words are at most 256 bytes of UTF-8,
+/// Whether an operation may be admitted after `before` updates: it fits the relations, its words are at most 256 bytes of UTF-8,
 /// its nulls are named by their outer forms and come from those updates, and it puts no mapping in force.
 pub fn admits(schema: &Schema, before: u32, operation: &Operation) -> bool
     ensures admits { result ≡ admits schema.now before (operation_of operation.now) }

@@ -14,11 +14,11 @@ pub struct SessionUpdate {
     pub answers: ChoiceList,
 }
 
-/// The updates of a session in the order of their numbers, the first of them number 1.
+/// The updates of a session by number; the first has number 1.
 pub type SessionUpdates = List<SessionUpdate>;
 
-/// A session: the number of its format, its relations by number, its mappings by number, those that updates add
-/// behind the others, its base tuples in order, each once, and its updates.
+/// A session: the number of its format, its relations by number, its mappings by number (those that updates add come last), its
+/// base tuples in order, each once, and its updates.
 #[derive(Drop)]
 pub struct Session {
     pub format: u8,

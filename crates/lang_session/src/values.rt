@@ -7,7 +7,7 @@ ghost use Rattle.lang_session.specs.Admissible.{fits_datum, fits_null, fits_text
 use base_types::{Null, Value};
 use lang_lex::utf8_end;
 
-/// A null is named by its outer form, and comes from one of so many updates.
+/// Whether the null is named by its outer form and comes from one of the first `before` updates.
 pub(crate) fn fits_null(before: u32, null: Null) -> bool
     ensures { result ≡ fits_null before (null_of null) }
 {
@@ -24,14 +24,14 @@ pub fn is_text(bytes: &[u8]) -> bool
     }
 }
 
-// At most 256 bytes of UTF-8.
+// Whether the text is at most 256 bytes of UTF-8.
 fn fits_text(text: &[u8]) -> bool
     ensures { result ≡ fits_text text.now }
 {
     text.len() <= 256 && is_text(text)
 }
 
-/// Whether the value may stand in an operation behind so many updates.
+/// Whether the value may stand in an operation after `before` updates.
 pub(crate) fn fits_value(before: u32, value: &Value) -> bool
     ensures { result ≡ fits_datum before (datum_of value.now) }
 {
@@ -42,7 +42,7 @@ pub(crate) fn fits_value(before: u32, value: &Value) -> bool
     }
 }
 
-/// Whether all of them may.
+/// Whether all the values may stand in an operation after `before` updates.
 pub(crate) fn fits_values(before: u32, values: &[Value]) -> bool
     ensures { result ≡ list_all (fits_datum before) (map datum_of values.now) }
 {

@@ -98,7 +98,7 @@ fn stands(
         standing_for (null_of name) (holders_in (seen_in view.old) (null_of name))) }
     ensures same { view.new ≡ view.old }
 {
-    let answer = view.eval(&Query::Occurs(name.update, name.place), alloc)?;
+    let answer = view.eval(&Query::Occurs(name.outer_name()), alloc)?;
     stands_by(alloc, name, &answer)
 }
 

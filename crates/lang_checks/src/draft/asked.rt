@@ -20,7 +20,7 @@ use lang_schema::{SchemaRefusal, Which};
 use std::alloc::Global;
 
 impl Draft {
-    // The operation of the update that comes next, and the mapping that it adds, if it adds one.
+    // The operation of the next update, and the mapping that it adds, if it adds one.
     #[tactic(auto, unfolding(def_language::specs::Checks::operation_of))]
     fn performed(
         &self,
@@ -80,7 +80,7 @@ impl Draft {
         Ok(())
     }
 
-    // An update: its label is new, there is room for it and its curator, and its operation passes.
+    // Adds an update. Its label must be new, there must be room for it and its curator, and its operation must pass its checks.
     #[tactic(auto, unfolding(def_language::specs::Checks::add_update))]
     pub(crate) fn add_update(
         &mut self,
@@ -122,7 +122,7 @@ impl Draft {
         }
     }
 
-    // An answer to a question of the update of the label.
+    // Adds an answer to a question of the update with this label.
     #[tactic(auto, unfolding(def_language::specs::Checks::add_answer))]
     pub(crate) fn add_answer(
         &mut self,

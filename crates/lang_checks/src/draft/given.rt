@@ -1,4 +1,4 @@
-//! What a session begins with: relations, mappings and base tuples.
+//! The parts with which a session begins: relations, mappings and base tuples.
 
 ghost use Rattle.std.specs.Prelude.{◌≡◌, ◌<◌, IfOk, OnErr, length};
 ghost use Rattle.def_language.specs.Checks.{add_mapping, add_relation, add_tuple};
@@ -19,7 +19,7 @@ use lang_schema::{SchemaRefusal, Which};
 use std::alloc::Global;
 
 impl Draft {
-    // A relation: the name is new, the arity fits, and there is room.
+    // Adds a relation. Its name must be new, its arity must fit, and there must be room.
     #[tactic(auto, unfolding(def_language::specs::Checks::add_relation))]
     pub(crate) fn add_relation(&mut self, name: Name, columns: i64) -> Result<(), TakeRefusal>
         ensures taken { Gives (λ _. self.new) result (add_relation self.old name.items columns) }
@@ -38,7 +38,7 @@ impl Draft {
         Ok(())
     }
 
-    // A mapping that the given update puts in force, or that is in force from the start, with its checks.
+    // Checks a mapping that update `since` puts in force, or that is in force from the start if `since` is 0.
     #[tactic(auto, unfolding(def_language::specs::Checks::add_mapping))]
     pub(crate) fn checked_mapping(
         &self,
@@ -64,7 +64,7 @@ impl Draft {
         Ok(mapping)
     }
 
-    // A mapping that is in force from the start.
+    // Adds a mapping that is in force from the start.
     pub(crate) fn add_mapping(
         &mut self,
         alloc: Global,
@@ -79,7 +79,7 @@ impl Draft {
         Ok(())
     }
 
-    // A tuple of the base; one that is given twice is kept once.
+    // Adds a tuple of the base. A tuple that is given twice is kept once.
     #[tactic(auto, unfolding(def_language::specs::Checks::add_tuple))]
     pub(crate) fn add_tuple(&mut self, alloc: Global, fact: RawFact) -> Result<(), TakeRefusal>
         ensures taken { Gives (λ _. self.new) result (add_tuple self.old (fact_of fact)) }
