@@ -127,7 +127,7 @@ pub course_follows : (course : Course) (t : Fact) → Follows (comes_after cours
 course_follows All t = beyond_follows (Some t)
 course_follows Relation t = past_follows t
 course_follows (Column r c v) t = scanned_follows r c (datum_of v.now) (Some t)
-course_follows (Holding update place) t = holding_follows update place (Some t)
+course_follows (Holding name) t = holding_follows name.update name.place (Some t)
 
 -- ---- what is ahead in a relation
 

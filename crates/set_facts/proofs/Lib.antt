@@ -19,4 +19,6 @@ pub mod AtHand
 pub mod Behind
 pub mod Beside
 pub mod Sought
+pub mod Spanning
+pub mod Crossing
 mod Ahead

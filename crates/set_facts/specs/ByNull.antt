@@ -17,22 +17,22 @@ holders_in m update place = group_in m (outer_null update place)
 abbrev pub IsNullIndex : List Fact → Kept → Type 0
 IsNullIndex D m = (u k : ℕ) (s : Fact) → has (holders_in m u k) s ≡ (has D s && holds_null u k s)
 
--- So they are, but for this tuple, which may be kept too at nulls that it holds.
+-- At each null exactly the tuples of the set that hold it are kept, except that tuple t may be kept too at nulls that it holds.
 abbrev pub IsNullIndexBut : List Fact → Fact → Kept → Type 0
 IsNullIndexBut D t m = (u k : ℕ) (s : Fact) → has (holders_in m u k) s ≡ ((has D s && holds_null u k s) || ((holds_null u k t && same_fact s t) && has (holders_in m u k) s))
 
--- To what was kept exactly this tuple is added, at the nulls that are told.
+-- Only tuple t is added, exactly at the nulls that pass the test.
 abbrev pub AddsHolder : (ℕ → ℕ → Bool) → Fact → Kept → Kept → Type 0
 AddsHolder at t m n = (u k : ℕ) (s : Fact) → has (holders_in n u k) s ≡ (has (holders_in m u k) s || (at u k && same_fact s t))
 
--- To what was kept at most this tuple is added, at nulls that it holds.
+-- At most tuple t is added, and only at nulls that it holds.
 abbrev pub AddsAtMostHolder : Fact → Kept → Kept → Type 0
 AddsAtMostHolder t m n = (u k : ℕ) (s : Fact) → has (holders_in n u k) s ≡ (has (holders_in m u k) s || ((holds_null u k t && same_fact s t) && has (holders_in n u k) s))
 
--- Of what was kept exactly this tuple is gone, at the nulls that are told.
+-- Only tuple t is gone, exactly from the nulls that pass the test.
 abbrev pub DropsHolder : (ℕ → ℕ → Bool) → Fact → Kept → Kept → Type 0
 DropsHolder at t m n = (u k : ℕ) (s : Fact) → has (holders_in n u k) s ≡ (has (holders_in m u k) s && not (at u k && same_fact s t))
 
--- The same is kept at each null.
+-- Both keep the same tuples at each null.
 abbrev pub AreSameHolders : Kept → Kept → Type 0
 AreSameHolders m n = (u k : ℕ) → holders_in n u k ≡ holders_in m u k

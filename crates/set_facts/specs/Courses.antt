@@ -1,4 +1,4 @@
--- Going over some tuples of a set: which comes after which, and what is still ahead.
+-- Courses through some tuples of a set: which tuple comes after which, and which are still ahead.
 use Rattle.std.specs.Prelude.{ℕ, Bool, ◌&&◌, List, [], ◌∷◌, filter, Option, Some, None}
 use Rattle.def_chase.specs.Values.{Fact}
 use Rattle.def_chase.specs.Cursors.{is_of, is_past, is_beyond, is_scanned}
@@ -11,14 +11,15 @@ use Rattle.set_facts.specs.declared.course.Course.TheVariants.{All, Relation, Co
 abbrev pub is_ahead : ℕ → Option Fact → Fact → Bool
 is_ahead r past u = is_of r u && is_beyond past u
 
--- The tuple u comes after t on the course: among all, in the same relation, among those of a relation with a value in a column, or among those that hold a null.
+-- The tuple u comes after t on the course: among all tuples, in the same relation, among those of a relation with a value in a
+-- column, or among those that hold a null.
 abbrev pub comes_after : Course → Fact → Fact → Bool
 comes_after All t u = is_beyond (Some t) u
 comes_after Relation t u = is_past t u
 comes_after (Column r c v) t u = is_scanned r c (datum_of v.now) (Some t) u
-comes_after (Holding update place) t u = is_holding update place (Some t) u
+comes_after (Holding name) t u = is_holding name.update name.place (Some t) u
 
--- What a cursor at this tuple has before it: it, and those that come after it by q.
+-- The tuples that are ahead of a cursor at this tuple: the tuple itself, and the tuples of D that come after it by q.
 abbrev pub ahead : (Fact → Fact → Bool) → List Fact → Option Fact → List Fact
 ahead q D None = []
 ahead q D (Some t) = t ∷ filter (q t) D

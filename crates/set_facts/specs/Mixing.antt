@@ -1,10 +1,10 @@
--- What a `Mixer` computes.
+-- The hash that a `Mixer` computes.
 use Rattle.std.specs.Prelude.{ℕ, ◌*◌, ◌/◌, ◌^◌, ◌-◌, ◌==◌, List, length, if◌then◌else◌, bit_and, bit_xor}
 use Rattle.std.specs.Int.{from_le_bytes, w64}
 use Rattle.std.specs.Hash.FoldHasher as folding
 use Rattle.set_facts.specs.declared.mixing.Mixer.{Mixer}
 
--- Before anything is written.
+-- The state before anything is written.
 abbrev pub initial : Mixer
 initial = record { state = 0x243f_6a88_85a3_08d3 }
 
@@ -12,14 +12,14 @@ initial = record { state = 0x243f_6a88_85a3_08d3 }
 abbrev pub folded : ℕ → ℕ
 folded n = bit_xor (bit_and (n * 0x9e37_79b9_7f4a_7c15) (2 ^ 64 - 1)) (n * 0x9e37_79b9_7f4a_7c15 / 2 ^ 64)
 
--- After the number has been taken in.
+-- The state after the number has been taken in.
 abbrev pub mixed : Mixer → ℕ → Mixer
 mixed h n = record { state = folded (bit_xor h.state n) }
 
--- What is told at the end.
+-- The hash at the end.
 abbrev pub finished : Mixer → ℕ
 finished h = h.state
 
--- The number that bytes are taken in by: their own where there are eight, the lowest first.
+-- The number for the bytes: the number that they spell if there are eight, the lowest first, otherwise a hash of them.
 abbrev pub written : List ℕ → ℕ
 written bs = if length bs == 8 then from_le_bytes w64 bs else folding.finish (folding.write folding.initial bs)

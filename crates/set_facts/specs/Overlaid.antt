@@ -10,11 +10,11 @@ abbrev pub put_all : List Fact → List Fact → List Fact
 put_all D [] = D
 put_all D (t ∷ ts) = insert_key fact_cmp (put_all D ts) t
 
--- The set without what is gone, and with what is added.
+-- The set without the tuples that are gone, and with those that are added.
 abbrev pub overlaid : List Fact → List Fact → List Fact → List Fact
 overlaid D gone added = put_all (filter (λ s. not (has gone s)) D) added
 
--- The lesser of two tuples, of those that there are.
+-- The lesser of two tuples, or the only one that is there.
 abbrev pub lesser : Option Fact → Option Fact → Option Fact
 lesser None o = o
 lesser (Some s) None = Some s

@@ -13,7 +13,7 @@ use Rattle.base_types.specs.declared.tuples.Tuple.{Tuple}
 abbrev pub StandsAt : List Tuple → Tuple → ℕ → Type 0
 StandsAt D t i = HoldsAt (λ y. fact_cmp (fact_of y) (fact_of t) ≡ Equal) D i
 
--- The place parts those below the tuple from those above it.
+-- The place parts the tuples below t from the tuples above it.
 abbrev pub IsBetween : List Tuple → Tuple → ℕ → Type 0
 IsBetween D t i = IsPartitionPoint (λ y. fact_cmp (fact_of y) (fact_of t) ≡ Less) (λ y. fact_cmp (fact_of y) (fact_of t) ≡ Greater) D i
 
@@ -25,6 +25,6 @@ is_from t u = is_le (fact_cmp t u)
 abbrev pub is_inside : Fact → Fact → Fact → Bool
 is_inside s t u = is_beyond (Some s) u && not (is_from t u)
 
--- Of those that pass q the rest has the first one that the set has, by whatever further test.
+-- A search for the first tuple gives the same in the rest as in D, if it asks for tuples that pass q.
 abbrev pub HasAllThat : (Fact → Bool) → List Fact → List Fact → Type 0
 HasAllThat q D rest = (p : Fact → Bool) → ((u : Fact) → p u ≡ true → q u ≡ true) → find p rest ≡ find p D

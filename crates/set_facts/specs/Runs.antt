@@ -10,26 +10,27 @@ use Rattle.def_chase.specs.Values.{Fact, fact_cmp}
 use Rattle.set_facts.specs.declared.runs.Run.{Run}
 use Rattle.set_facts.specs.declared.runs.Run.TheVariants.{Listed, Together, Few}
 
--- The tuples of a run that are to come.
+-- The tuples of a run that are still to come.
 abbrev pub run_of : Run → List Fact
 run_of (Listed tuples) = map fact_of tuples.now
 run_of (Together range) = map fact_of range
 run_of (Few few) = map fact_of few.left
 
--- Those that are not hidden.
+-- The tuples that are not hidden.
 abbrev pub left_of : List Fact → List Fact → List Fact
 left_of hidden D = filter (λ u. not (has hidden u)) D
 
--- What is to come behind the tuple, if there is one, and with it.
+-- The tuple, if there is one, and then the tuples of D.
 abbrev pub ahead_of : Option (Bor Tuple) → List Fact → List Fact
 ahead_of o D = option_to_list (option_map fact_of (option_copied o)) ++ D
 
--- A list that begins with x, and a second one, as one list, where f does so with what is behind x: of the first tuples of both the lesser comes first, and where they are one it comes once.
+-- A list that begins with x, merged with a second one; f merges the rest of the first list with a list. Of the first tuples of
+-- both the lesser comes first; if they are equal, the tuple comes once.
 abbrev pub merged_with : Fact → (List Fact → List Fact) → List Fact → List Fact
 merged_with x f [] = x ∷ f []
 merged_with x f (y ∷ ys) = match_ordering (fact_cmp x y) (x ∷ f (y ∷ ys)) (x ∷ f ys) (y ∷ merged_with x f ys)
 
--- Two lists in order as one.
+-- Two lists in order, merged into one in order.
 abbrev pub merged : List Fact → List Fact → List Fact
 merged [] ys = ys
 merged (x ∷ xs) ys = merged_with x (merged xs) ys

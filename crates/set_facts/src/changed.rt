@@ -1,4 +1,4 @@
-//! What a set has at hand, as writes leave it.
+//! The candidates that a set has at hand, as writes leave them.
 ghost use Rattle.std.specs.Prelude.{◌≡◌, ℕ, List, Option};
 ghost use Rattle.def_chase.specs.Repository.{IsRepository};
 ghost use Rattle.def_chase.specs.Values.{Datum, Fact};
@@ -12,8 +12,8 @@ use crate::runs::Run;
 use base_tree::Few;
 use base_types::{Candidates, Tuple};
 
-/// The candidates without what is gone and with what is added, where the set has these at hand, and `few` of them are added:
-/// a few of them. They stand apart where the set's do, or where it tells but the first of them.
+/// The first of the set's candidates without the tuples `gone` and with the added ones, of which `few` are the first. The answer
+/// is `Apart` if `given` are not all of the set's candidates.
 #[inline(always)]
 pub(crate) fn changed<'a>(
     given: Candidates<'a>,
@@ -42,7 +42,7 @@ pub(crate) fn changed<'a>(
     Candidates::Few(first_of_both(run, gone, few))
 }
 
-// The first of them, where the set has this run.
+// The first candidates as the writes leave them, if `run` are all the set's candidates.
 #[inline(always)]
 fn first_of_both<'a>(run: Run<'a>, gone: &'a Group, few: Few<'a, Tuple>) -> Few<'a, Tuple>
     ensures first { (D added : List Fact) (r : ℕ) (c : Option (ℕ × Datum)) (past : Option Fact) →

@@ -1,4 +1,4 @@
-//! Cursors over what is left of a set of which some tuples are hidden.
+//! Cursors over a set of which some tuples are hidden.
 ghost use Rattle.std.specs.Prelude.{◌≡◌, List, not, find};
 ghost use Rattle.std.specs.Option.{option_map, option_copied};
 ghost use Rattle.def_chase.specs.Repository.{has, IsRepository};
@@ -7,9 +7,9 @@ ghost use Rattle.base_types.specs.Meanings.{fact_of};
 ghost use Rattle.set_facts.specs.Courses.{comes_after, ahead};
 ghost use Rattle.set_facts.specs.Overlaid.{lesser};
 
-use base_types::{Facts, Tuple, Value};
+use base_types::{Facts, OuterName, Tuple, Value};
 
-/// What hides tuples of a set. Its meaning, `hidden`, is the list of them.
+/// Something that hides tuples of a set. Its meaning, `hidden`, is the list of the tuples that it hides.
 pub trait Hides {
     ghost hidden: { Self → List Fact };
 
@@ -18,14 +18,14 @@ pub trait Hides {
         ensures answer { result ≡ has (hidden self.now) (fact_of tuple.now) };
 }
 
-/// Which tuples a cursor goes over: all, those of a relation, those of a relation with a value in a column, or those that hold
-/// a null drawn by an update at a place.
+/// The tuples that a cursor goes over: all, the tuples of a relation, the tuples of a relation with a value in a column, or the
+/// tuples that hold a null of a name.
 #[derive(Drop)]
 pub enum Course<'v> {
     All,
     Relation,
     Column(u16, u16, &'v Value),
-    Holding(u32, u32),
+    Holding(OuterName),
 }
 
 /// The first tuple from the cursor on that is not hidden.
@@ -62,11 +62,11 @@ fn next<'a, F: Facts>(facts: &'a F, course: &Course<'_>, tuple: &Tuple) -> Optio
         Course::Column(relation, column, value) => {
             facts.scan(*relation, *column, *value, Some(tuple))
         }
-        Course::Holding(update, place) => facts.holding(*update, *place, Some(tuple)),
+        Course::Holding(name) => facts.holding(*name, Some(tuple)),
     }
 }
 
-/// The lesser of two tuples, of those that there are.
+/// The lesser of two tuples, or the only one that is there.
 pub fn least<'a>(one: Option<&'a Tuple>, other: Option<&'a Tuple>) -> Option<&'a Tuple>
     ensures least { option_map fact_of (option_copied result) ≡
         lesser (option_map fact_of (option_copied one.entry))

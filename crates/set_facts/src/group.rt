@@ -11,20 +11,20 @@ ghost use Rattle.set_facts.specs.Places.{HasAllThat};
 ghost use Rattle.set_facts.specs.Runs.{run_of};
 
 use crate::course::Hides;
-use crate::holding::holds_null;
 use crate::listed::{Held, ListedFacts};
 use crate::plain::PlainFacts;
 use crate::runs::Run;
 use base_tree::Few;
-use base_types::{Candidates, Column, Facts, Memory, Tuple, Value};
+use base_types::{Candidates, Column, Facts, Memory, OuterName, Tuple, Value};
 use std::alloc::Global;
 use std::marker::Model;
 
-// So many tuples are few: to move them in a list costs less than to search a tree for the place of one.
+// Up to this number of tuples, moving them in a list costs less than searching a tree for the place of one.
 const FEW: usize = 256;
 
-/// A set of tuples, mostly few of them, as those that a column keeps at a value or an update has written. Few are a list; from
-/// the first insertion into more on they are a balanced tree. Contracts see the list of its tuples, in order.
+/// A set of tuples that is mostly small, such as the tuples that a column keeps at a value or that an update has written. A small
+/// set is a list; with the first insertion into a larger one it becomes a balanced tree. Contracts see the list of its tuples, in
+/// order.
 #[derive(Debug, Drop)]
 pub struct Group {
     held: Held,
@@ -56,7 +56,7 @@ impl Group {
         }
     }
 
-    /// How many tuples there are.
+    /// The number of tuples.
     pub fn len(&self) -> usize
         ensures length { result ≡ length self.now }
     {
@@ -66,7 +66,7 @@ impl Group {
         }
     }
 
-    /// Puts a tuple in, and tells whether it is new. If it is refused, it hands the tuple back, and the set is unchanged.
+    /// Inserts a tuple, and returns whether it is new. If it is refused, it hands the tuple back, and the set is unchanged.
     pub fn insert(&mut self, tuple: Tuple) -> Result<bool, (Tuple, Memory)>
         ensures changed { IfOk result (λ changed. changed ≡ not (has self.old (fact_of tuple))) }
         ensures ok { OnOk result (self.new ≡ change self.old (Insert (fact_of tuple))) }
@@ -101,7 +101,7 @@ impl Group {
         Ok(added)
     }
 
-    /// Takes a tuple away, and tells whether it was there.
+    /// Removes a tuple, and returns whether it was there.
     pub fn remove(&mut self, tuple: &Tuple) -> bool
         ensures changed { result ≡ has self.old (fact_of tuple.now) }
         ensures after { self.new ≡ change self.old (Delete (fact_of tuple.now)) }
@@ -112,8 +112,8 @@ impl Group {
         }
     }
 
-    /// Whether it is plain that it has no tuple of the relation with the column's value, where a column is given. Only a
-    /// list is searched for one; of a tree the first and the last tuple tell.
+    /// A quick test: true only if the set has no tuple of the relation with the column's value, if a column is given. A list is
+    /// searched; of a tree only the first and the last tuple are looked at.
     pub(crate) fn lacks(&self, relation: u16, column: Option<Column<'_>>) -> bool
         ensures none { IsTrue result →
             list_any (is_candidate relation (option_map column_of column.entry)) self.now ≡ false }
@@ -124,7 +124,7 @@ impl Group {
         }
     }
 
-    /// Whether all its tuples are of greater relations, or all of lesser ones: the first and the last tell.
+    /// Whether all its tuples are of greater relations, or all of lesser ones, judged by the first and the last tuple.
     pub(crate) fn is_beside(&self, relation: u16) -> bool
         ensures none { IsTrue result → list_any (is_of relation) self.now ≡ false }
     {
@@ -134,8 +134,8 @@ impl Group {
         }
     }
 
-    /// The first of its tuples that are of the relation, have the column's value, where a column is given, and are above
-    /// `past`, where that is given; None exactly where there is none.
+    /// The first few of its tuples that are of the relation, have the column's value, if a column is given, and are above `past`,
+    /// if that is given; None exactly if there is no such tuple.
     pub(crate) fn few(
         &self,
         relation: u16,
@@ -152,7 +152,7 @@ impl Group {
         self.ahead(relation, past).few(relation, column, past)
     }
 
-    // Its tuples in order, but for some that are of a lesser relation, or not above `past` where that is given.
+    // Its tuples in order, possibly without some that are of a lesser relation or, if `past` is given, not above it.
     fn ahead(&self, relation: u16, past: Option<&Tuple>) -> Run<'_>
         ensures all { HasAllThat (is_ahead relation (option_map fact_of (option_copied past.entry)))
             self.now (run_of result) }
@@ -165,7 +165,7 @@ impl Group {
         }
     }
 
-    /// All its tuples above the given one, or all where none is given, at hand.
+    /// All its tuples above the given one, or all if none is given, at hand.
     pub fn at_hand(&self, past: Option<&Tuple>) -> Candidates<'_>
         ensures all { AreAll result self.now
             (filter (is_beyond (option_map fact_of (option_copied past.entry))) self.now) }
@@ -226,10 +226,10 @@ impl Facts for Group {
         }
     }
 
-    fn holding(&self, update: u32, place: u32, past: Option<&Tuple>) -> Option<&Tuple> {
+    fn holding(&self, name: OuterName, past: Option<&Tuple>) -> Option<&Tuple> {
         let mut cursor = self.beyond(past);
         while let Some(found) = cursor {
-            if holds_null(found, update, place) {
+            if found.holds_null(name) {
                 return Some(found);
             }
             cursor = self.beyond(Some(found));

@@ -12,19 +12,19 @@ ghost use Rattle.set_facts.specs.Runs.{run_of};
 use crate::columns::Groups;
 use crate::nulls::{drop_nulls, holders, index_nulls, keep_nulls};
 use crate::plain::PlainFacts;
-use crate::relations::{Columns, drop_out, keep, keeps, kept};
+use crate::relations::{Columns, drop_out, keep, keeps, kept, values};
 use crate::runs::Run;
-use base_types::{Candidates, Column, Facts, Memory, TryCopy, Tuple, TupleList, Value};
+use base_types::{Candidates, Column, Facts, Memory, OuterName, TryCopy, Tuple, TupleList, Value};
+use indexmap::IndexMap;
 use std::alloc::Global;
-use std::collections::HashMap;
 use std::collections::btree_set::Range;
 use std::hash::BuildHasherDefault;
 use std::marker::Model;
 
-/// A set of tuples with, for each relation, column and value, exactly its tuples that have the value there, found by the
-/// value's hash, and for each null exactly its tuples that hold it, by whatever attempt it was drawn. Insertions, deletions and cursors take steps as many as the logarithm of the set's size. Whether a tuple
-/// is there is asked of those with its first value, since they are mostly few. Each tuple is held once more for
-/// each of its columns and nulls, and no tuple that is not in the set. Contracts see the list of its tuples, in order.
+/// A set of tuples with two indexes: by relation, column and value, found by the value's hash, and by null, whatever attempt drew
+/// it. Insertions, deletions and cursors take steps logarithmic in the set's size. `contains` searches only the tuples with the
+/// same first value, which are mostly few. Each tuple is held once more for each of its columns and nulls. Contracts see the list
+/// of its tuples, in order.
 #[derive(Debug, Drop)]
 pub struct IndexedFacts {
     all: PlainFacts,
@@ -57,7 +57,7 @@ impl IndexedFacts {
         IndexedFacts {
             all: PlainFacts::new(alloc),
             relations: Vec::new(alloc),
-            by_null: HashMap::with_hasher(alloc, BuildHasherDefault::new()),
+            by_null: IndexMap::with_hasher(alloc, BuildHasherDefault::new()),
             alloc,
         }
     }
@@ -80,14 +80,14 @@ impl IndexedFacts {
         }
     }
 
-    /// How many tuples there are.
+    /// The number of tuples.
     pub fn len(&self) -> usize
         ensures length { result ≡ length self.now }
     {
         self.all.len()
     }
 
-    /// Puts a tuple in, and tells whether it is new. If it is refused, it hands the tuple back, and the set is unchanged.
+    /// Inserts a tuple, and returns whether it is new. If it is refused, it hands the tuple back, and the set is unchanged.
     pub fn insert(&mut self, tuple: Tuple) -> Result<bool, (Tuple, Memory)>
         ensures changed { IfOk result (λ changed. changed ≡ not (has self.old (fact_of tuple))) }
         ensures ok { OnOk result (self.new ≡ change self.old (Insert (fact_of tuple))) }
@@ -115,7 +115,7 @@ impl IndexedFacts {
         }
     }
 
-    /// Takes a tuple away, and tells whether it was there.
+    /// Removes a tuple, and returns whether it was there.
     pub fn remove(&mut self, tuple: &Tuple) -> bool
         ensures changed { result ≡ has self.old (fact_of tuple.now) }
         ensures after { self.new ≡ change self.old (Delete (fact_of tuple.now)) }
@@ -229,11 +229,15 @@ impl Facts for IndexedFacts {
         }
     }
 
-    fn holding(&self, update: u32, place: u32, past: Option<&Tuple>) -> Option<&Tuple> {
-        match holders(&self.by_null, update, place) {
+    fn holding(&self, name: OuterName, past: Option<&Tuple>) -> Option<&Tuple> {
+        match holders(&self.by_null, name) {
             Some(group) => group.beyond(past),
             None => None,
         }
+    }
+
+    fn values(&self, relation: u16, column: u16) -> Option<&[Value]> {
+        Some(values(&self.relations, relation, column))
     }
 }
 
@@ -260,8 +264,8 @@ fn index_all(alloc: Global, facts: &PlainFacts) -> Result<Vec<Columns>, Memory>
     Ok(relations)
 }
 
-// Keeps a copy of the tuple in the columns of its relation and at its nulls. If it is refused, it may be kept at some of them,
-// and what else is kept is as before.
+// Keeps a copy of the tuple in the columns of its relation and at its nulls. If it is refused, some of these may keep the tuple;
+// nothing else changes.
 fn keep_both(
     relations: &mut Vec<Columns>,
     by_null: &mut Groups,
@@ -291,7 +295,7 @@ fn drop_both(relations: &mut Vec<Columns>, by_null: &mut Groups, tuple: &Tuple)
     drop_nulls(by_null, tuple);
 }
 
-// Makes the indexes those of all tuples again, where at most this one was added to them.
+// Makes the indexes those of `all` again, after at most this tuple was added to them.
 fn take_back(relations: &mut Vec<Columns>, by_null: &mut Groups, all: &PlainFacts, tuple: &Tuple)
     requires { IsIndexBut all.now (fact_of tuple.now) relations.old.items ×
         IsNullIndexBut all.now (fact_of tuple.now) by_null.old }

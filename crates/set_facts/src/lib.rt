@@ -6,7 +6,6 @@ mod changed;
 mod columns;
 mod course;
 mod group;
-mod holding;
 mod indexed;
 mod listed;
 mod merging;
@@ -20,7 +19,6 @@ mod runs;
 mod scanned;
 
 pub use crate::course::{Course, Hides, least, remaining};
-pub use crate::holding::holds_null;
 pub use crate::indexed::IndexedFacts;
 pub use crate::merging::Merging;
 pub use crate::overlay::Overlay;

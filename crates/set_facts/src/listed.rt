@@ -17,14 +17,14 @@ use std::alloc::Global;
 use std::cmp::Ordering;
 use std::marker::Model;
 
-// To move so many tuples costs no more than to search a tree for the place of one.
+// Moving this number of tuples costs no more than searching a tree for the place of one.
 const NEAR: usize = 1024;
 
-// So many are gone over as soon as a place among them is searched for.
+// Up to this number of tuples, going over all is as fast as a search by halves.
 const SHORT: usize = 16;
 
-/// A set of tuples in a list, in order. A tuple is searched for by halves, and those behind its place are moved where one is put
-/// in or taken out. The first tuple takes the memory of one. Contracts see the list of its tuples, in order.
+/// A set of tuples in a list, in order. Searches are by halves, and an insertion or a removal moves the tuples after its place.
+/// The first tuple takes memory for one tuple only. Contracts see the list of its tuples, in order.
 #[derive(Debug, Drop)]
 pub(crate) struct ListedFacts {
     tuples: Vec<Tuple>,
@@ -61,14 +61,14 @@ impl ListedFacts {
         }
     }
 
-    /// How many tuples there are.
+    /// The number of tuples.
     pub(crate) fn len(&self) -> usize
         ensures length { result ≡ length self.now }
     {
         self.tuples.len()
     }
 
-    /// All its tuples above the given one, or all where none is given, in order.
+    /// All its tuples above the given one, or all if none is given, in order.
     pub(crate) fn behind(&self, past: Option<&Tuple>) -> &[Tuple]
         ensures tuples { map fact_of result.now ≡
             filter (is_beyond_tuple (option_map fact_of (option_copied past.entry))) self.now }
@@ -81,7 +81,7 @@ impl ListedFacts {
         }
     }
 
-    /// Its tuples in order, but for some that are of a lesser relation, or not above `past` where that is given.
+    /// Its tuples in order, possibly without some that are of a lesser relation or, if `past` is given, not above it.
     pub(crate) fn ahead(&self, relation: u16, past: Option<&Tuple>) -> &[Tuple]
         ensures all { HasAllThat (is_ahead relation (option_map fact_of (option_copied past.entry)))
             self.now (map fact_of result.now) }
@@ -118,7 +118,7 @@ impl ListedFacts {
         PlainFacts::of_owned(alloc, self.list(alloc)?)
     }
 
-    /// Whether the tuple belongs near the end, so that few tuples are moved where it is put in.
+    /// Whether the tuple belongs near the end, so that its insertion moves few tuples.
     pub(crate) fn ends_near(&self, tuple: &Tuple) -> bool {
         match self.tuples.len().checked_sub(NEAR) {
             Some(place) => self.tuples[place].cmp(tuple).is_lt(),
@@ -126,7 +126,7 @@ impl ListedFacts {
         }
     }
 
-    /// Puts a tuple in, and tells whether it is new. If it is refused, it hands the tuple back, and the set is unchanged.
+    /// Inserts a tuple, and returns whether it is new. If it is refused, it hands the tuple back, and the set is unchanged.
     pub(crate) fn insert(&mut self, tuple: Tuple) -> Result<bool, (Tuple, Memory)>
         ensures changed { IfOk result (λ changed. changed ≡ not (has self.old (fact_of tuple))) }
         ensures ok { OnOk result (self.new ≡ change self.old (Insert (fact_of tuple))) }
@@ -143,7 +143,7 @@ impl ListedFacts {
         }
     }
 
-    /// Takes a tuple away, and tells whether it was there.
+    /// Removes a tuple, and returns whether it was there.
     pub(crate) fn remove(&mut self, tuple: &Tuple) -> bool
         ensures changed { result ≡ has self.old (fact_of tuple.now) }
         ensures after { self.new ≡ change self.old (Delete (fact_of tuple.now)) }
@@ -167,9 +167,9 @@ impl ListedFacts {
     }
 }
 
-// Where there are many tuples a search begins at a place that it finds by halves.
+// If there are many tuples, a search begins at a place that it finds by halves.
 impl ListedFacts {
-    /// The least tuple above the given one, or of all where none is given; None exactly where there is none.
+    /// The least tuple above the given one, or of all if none is given; None exactly if there is none.
     pub(crate) fn beyond(&self, past: Option<&Tuple>) -> Option<&Tuple>
         ensures found { option_map fact_of (option_copied result) ≡
             find (is_beyond_tuple (option_map fact_of (option_copied past.entry))) self.now }
@@ -183,7 +183,7 @@ impl ListedFacts {
         None
     }
 
-    /// The least tuple of the relation; None exactly where it has none.
+    /// The least tuple of the relation; None exactly if it has none.
     pub(crate) fn first(&self, relation: u16) -> Option<&Tuple>
         ensures found { option_map fact_of (option_copied result) ≡ first_of self.now relation }
         ensures in_order { IsRepository self.now }
@@ -199,7 +199,7 @@ impl ListedFacts {
         None
     }
 
-    /// Whether it has no tuple of the relation with the column's value, where a column is given.
+    /// Whether it has no tuple of the relation with the column's value, if a column is given.
     pub(crate) fn lacks(&self, relation: u16, column: Option<Column<'_>>) -> bool
         ensures none { IsTrue result →
             list_any (is_candidate_tuple relation (option_map column_of column.entry)) self.now ≡ false }
@@ -228,7 +228,7 @@ impl ListedFacts {
         }
     }
 
-    /// The least tuple of the same relation above the given one; None exactly where there is none.
+    /// The least tuple of the same relation above the given one; None exactly if there is none.
     pub(crate) fn after(&self, tuple: &Tuple) -> Option<&Tuple>
         ensures found { option_map fact_of (option_copied result) ≡
             next_of self.now (fact_of tuple.now) }
@@ -237,8 +237,8 @@ impl ListedFacts {
         of_relation(self.beyond(Some(tuple)), tuple.relation)
     }
 
-    /// The least tuple of the relation that has the value in the column and is above `past`, where that is given; None
-    /// exactly where there is none.
+    /// The least tuple of the relation that has the value in the column and is above `past`, if that is given; None exactly if
+    /// there is none.
     pub(crate) fn scan(
         &self,
         relation: u16,
@@ -263,7 +263,7 @@ impl ListedFacts {
     }
 }
 
-// The tuples but for some below the given one, where one is given.
+// The tuples, possibly without some that are not above the given one, if one is given.
 fn beginning<'a>(tuples: &'a [Tuple], past: Option<&Tuple>) -> &'a [Tuple]
     requires in_order { IsRepository (map fact_of tuples.now) }
     ensures all { HasAllThat (is_beyond_tuple (option_map fact_of (option_copied past.entry)))
@@ -278,7 +278,7 @@ fn beginning<'a>(tuples: &'a [Tuple], past: Option<&Tuple>) -> &'a [Tuple]
     }
 }
 
-// The tuples but for some that are of a lesser relation, or not beyond `past` where that is given.
+// The tuples, possibly without some that are of a lesser relation or, if `past` is given, not above it.
 fn ahead<'a>(tuples: &'a [Tuple], relation: u16, past: Option<&Tuple>) -> &'a [Tuple]
     requires in_order { IsRepository (map fact_of tuples.now) }
     ensures all { HasAllThat (is_ahead relation (option_map fact_of (option_copied past.entry)))
@@ -321,7 +321,7 @@ fn above<'a>(tuples: &'a [Tuple], tuple: &Tuple) -> &'a [Tuple]
     }
 }
 
-// Whether the tuple comes behind the last one of the list.
+// Whether the tuple comes after the last one of the list.
 fn comes_behind(tuples: &Vec<Tuple>, tuple: &Tuple) -> bool
     requires { IsRepository (map fact_of tuples.now.items) }
     ensures behind { IsTrue result → IsBehind (fact_of tuple.now) (map fact_of tuples.now.items) }
@@ -336,7 +336,7 @@ fn comes_behind(tuples: &Vec<Tuple>, tuple: &Tuple) -> bool
     }
 }
 
-// Adds a tuple that comes behind the list. The first one takes the memory of one alone.
+// Adds a tuple that comes after all others. The first one takes memory for one tuple only.
 fn add(tuples: &mut Vec<Tuple>, tuple: Tuple) -> Result<bool, (Tuple, Memory)>
     requires behind { IsBehind (fact_of tuple) (map fact_of tuples.old.items) }
     requires in_order { IsRepository (map fact_of tuples.old.items) }

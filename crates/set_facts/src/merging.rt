@@ -1,4 +1,4 @@
-//! Two runs as one, without what is hidden of the first.
+//! Two runs as one, without the hidden tuples of the first.
 ghost use Rattle.std.specs.Prelude.{◌≡◌, ◌++◌, [], IfNone};
 ghost use Rattle.std.specs.Option.{option_copied, option_map, option_to_list};
 ghost use Rattle.base_types.specs.Candidates.{AreFirst};
@@ -12,14 +12,13 @@ use base_types::Tuple;
 use std::cmp::Ordering;
 use std::marker::Model;
 
-/// What is left of a run without the tuples that are hidden, and another run, as one in order. Contracts see the tuples that
-/// are to come.
+/// A run without its hidden tuples, merged in order with another run. Contracts see the tuples that are still to come.
 #[derive(Drop)]
 pub struct Merging<'a, H: Hides> {
     base: Run<'a>,
     hidden: &'a H,
     added: Run<'a>,
-    // The first of each that is to come.
+    // The next tuple of each run, read ahead.
     left: Option<&'a Tuple>,
     put: Option<&'a Tuple>,
 }
@@ -42,7 +41,7 @@ impl<'a, H: Hides> Model for Merging<'a, H> {
 }
 
 impl<'a, H: Hides> Merging<'a, H> {
-    /// What is left of the first, and the second behind its first tuple, as one.
+    /// The run `base` without its hidden tuples, merged with the second run, which is `put` and then `added`.
     pub fn new(
         base: Run<'a>,
         hidden: &'a H,
@@ -64,7 +63,7 @@ impl<'a, H: Hides> Merging<'a, H> {
         }
     }
 
-    /// The next tuple; None exactly where there is none to come.
+    /// The next tuple; None exactly if there is none to come.
     pub fn next(&mut self) -> Option<&'a Tuple>
         ensures step { self.old ≡
             option_to_list (option_map fact_of (option_copied result)) ++ self.new }
@@ -96,7 +95,7 @@ impl<'a, H: Hides> Merging<'a, H> {
         }
     }
 
-    /// The first tuples to come, as many as there is room for.
+    /// The next tuples, as many as the result has room for.
     pub fn few(&mut self) -> Few<'a, Tuple>
         ensures first { AreFirst result self.old }
     {

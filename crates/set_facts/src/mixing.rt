@@ -4,8 +4,8 @@ ghost use Rattle.set_facts.specs.Mixing.{initial, mixed, folded, finished, writt
 
 use std::hash::{FoldHasher, Hasher};
 
-/// A hasher whose state is multiplied to 128 bits with what comes, and the halves joined. It is not cryptographic: its seed is fixed, so
-/// whoever picks the values can make them collide.
+/// A hasher that mixes each number into its state by a product of 128 bits, whose halves it joins. It is not cryptographic: its
+/// seed is fixed, so anyone who picks the values can make them collide.
 #[derive(Clone, Copy, Debug)]
 pub struct Mixer {
     state: u64,
@@ -28,7 +28,7 @@ fn fold(number: u64) -> u64
     (product & 0xFFFF_FFFF_FFFF_FFFF) as u64 ^ (product >> 64) as u64
 }
 
-// A number for the bytes: their own where there are eight, the lowest first.
+// A number for the bytes: the number that they spell if there are eight, the lowest first, otherwise a hash of them.
 fn number_of(bytes: &[u8]) -> u64
     ensures number { result ≡ written bytes.now }
 {

@@ -9,16 +9,16 @@ ghost use Rattle.set_facts.specs.ByNull.{outer_null, holders_in, IsNullIndex, Ad
 use crate::columns::{Groups, add, take_out};
 use crate::group::Group;
 use crate::plain::PlainFacts;
-use base_types::{Memory, Null, Tuple, Value};
+use base_types::{Memory, OuterName, Tuple, Value};
+use indexmap::IndexMap;
 use std::alloc::Global;
-use std::collections::HashMap;
 use std::hash::BuildHasherDefault;
 
-/// The tuples that are kept at the nulls which the update drew at the place, if there are any.
-pub fn holders(by_null: &Groups, update: u32, place: u32) -> Option<&Group>
-    ensures kept { unwrap_or (option_copied result) [] ≡ holders_in by_null.now update place }
+/// The tuples that are kept at the nulls of this name, if there are any.
+pub fn holders(by_null: &Groups, name: OuterName) -> Option<&Group>
+    ensures kept { unwrap_or (option_copied result) [] ≡ holders_in by_null.now name.update name.place }
 {
-    by_null.get(&outer(update, place))
+    by_null.get(&outer(name))
 }
 
 /// The index of all tuples of the set.
@@ -26,15 +26,15 @@ pub fn index_nulls(alloc: Global, facts: &PlainFacts) -> Result<Groups, Memory>
     ensures index { IfOk result (λ by_null. IsNullIndex facts.now by_null) }
     ensures in_order { IsRepository facts.now }
 {
-    let mut by_null = HashMap::with_hasher(alloc, BuildHasherDefault::new());
+    let mut by_null = IndexMap::with_hasher(alloc, BuildHasherDefault::new());
     for tuple in facts.iter() {
         keep_nulls(&mut by_null, alloc, tuple)?;
     }
     Ok(by_null)
 }
 
-/// Keeps a copy of the tuple at each null that it holds. If it is refused, it may be kept at some of them, and what else is kept
-/// is as before.
+/// Keeps a copy of the tuple at each null that it holds. If it is refused, some of these may keep the tuple; nothing else
+/// changes.
 pub fn keep_nulls(by_null: &mut Groups, alloc: Global, tuple: &Tuple) -> Result<(), Memory>
     ensures ok { OnOk result (AddsHolder (λ u k. holds_null u k (fact_of tuple.now))
         (fact_of tuple.now) by_null.old by_null.new) }
@@ -56,14 +56,14 @@ pub fn drop_nulls(by_null: &mut Groups, tuple: &Tuple)
     }
 }
 
-// Keeps a copy of the tuple at the value, if that is a null. If it is refused, what is kept is as before.
+// Keeps a copy of the tuple at the value, if that is a null. If it is refused, nothing changes.
 fn keep_at(by_null: &mut Groups, alloc: Global, value: &Value, tuple: &Tuple) -> Result<(), Memory>
     ensures ok { OnOk result (AddsHolder (λ u k. is_named u k (datum_of value.now))
         (fact_of tuple.now) by_null.old by_null.new) }
     ensures err { OnErr result (AreSameHolders by_null.old by_null.new) }
 {
     match value {
-        Value::Null(null) => add(by_null, alloc, &outer(null.update, null.place), tuple),
+        Value::Null(null) => add(by_null, alloc, &outer(null.outer_name()), tuple),
         Value::Int(_) => Ok(()),
         Value::Word(_) => Ok(()),
     }
@@ -75,19 +75,15 @@ fn drop_at(by_null: &mut Groups, value: &Value, tuple: &Tuple)
         (fact_of tuple.now) by_null.old by_null.new }
 {
     match value {
-        Value::Null(null) => take_out(by_null, &outer(null.update, null.place), tuple),
+        Value::Null(null) => take_out(by_null, &outer(null.outer_name()), tuple),
         Value::Int(_) => {}
         Value::Word(_) => {}
     }
 }
 
-// The null that the first attempt of the update drew at the place.
-fn outer(update: u32, place: u32) -> Value
-    ensures { datum_of result ≡ outer_null update place }
+// The null of this name that the first attempt drew.
+fn outer(name: OuterName) -> Value
+    ensures { datum_of result ≡ outer_null name.update name.place }
 {
-    Value::Null(Null {
-        update,
-        attempt: 0,
-        place,
-    })
+    Value::Null(name.null())
 }

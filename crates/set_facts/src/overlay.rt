@@ -12,12 +12,12 @@ use crate::changed::changed;
 use crate::course::{Course, least, remaining};
 use crate::group::Group;
 use base_tree::Few;
-use base_types::{Candidates, Column, Facts, Memory, TryCopy, Tuple, Value, Write};
+use base_types::{Candidates, Column, Facts, Memory, OuterName, TryCopy, Tuple, Value, Write};
 use std::alloc::Global;
 use std::marker::Model;
 
-/// A set with writes applied to it in turn. It borrows the set, and keeps only the tuples that the writes take away
-/// from it or put into it. Contracts see the list of its tuples, in order.
+/// A set with writes applied to it in turn. It borrows the set, and keeps only the tuples that the writes delete or insert.
+/// Contracts see the list of its tuples, in order.
 #[derive(Drop)]
 pub struct Overlay<'a, F: Facts> {
     facts: &'a F,
@@ -45,7 +45,7 @@ impl<'a, F: Facts> Overlay<'a, F> {
     pub fn new(alloc: Global, facts: &'a F) -> Overlay<'a, F>
         ensures same { result ≡ F.tuples facts.now }
     {
-        // The set tells that it is in order.
+        // The set promises that it is in order.
         facts.is_in_order();
         Overlay {
             facts,
@@ -54,7 +54,7 @@ impl<'a, F: Facts> Overlay<'a, F> {
         }
     }
 
-    /// Applies one write. If it is refused, the tuples are the same.
+    /// Applies one write. If it is refused, the tuples are unchanged.
     pub fn write(&mut self, alloc: Global, write: &Write) -> Result<(), Memory>
         ensures ok { OnOk result (self.new ≡ change self.old (change_of write.now)) }
         ensures err { OnErr result (self.new ≡ self.old) }
@@ -65,7 +65,7 @@ impl<'a, F: Facts> Overlay<'a, F> {
         }
     }
 
-    // Puts a tuple in. The set is not asked: what it has may be added too.
+    // Inserts a tuple. The set is not searched, so a tuple that it has may be added too.
     fn insert(&mut self, alloc: Global, tuple: &Tuple) -> Result<(), Memory>
         ensures ok { OnOk result (self.new ≡ change self.old (Insert (fact_of tuple.now))) }
         ensures err { OnErr result (self.new ≡ self.old) }
@@ -74,7 +74,7 @@ impl<'a, F: Facts> Overlay<'a, F> {
         Ok(())
     }
 
-    // Takes a tuple away: what the set has is gone, and what it lacks is no longer added.
+    // Deletes a tuple: if the set has it, it counts as gone; it no longer counts as added.
     fn delete(&mut self, alloc: Global, tuple: &Tuple) -> Result<(), Memory>
         ensures ok { OnOk result (self.new ≡ change self.old (Delete (fact_of tuple.now))) }
         ensures err { OnErr result (self.new ≡ self.old) }
@@ -89,7 +89,7 @@ impl<'a, F: Facts> Overlay<'a, F> {
         }
     }
 
-    /// Applies the writes in turn. If it is refused, the first so many of them are applied, and the others are not.
+    /// Applies the writes in turn. If it is refused, some first part of them is applied, and the others are not.
     pub fn write_all(&mut self, alloc: Global, writes: &[Write]) -> Result<(), Memory>
         ensures ok { OnOk result (self.new ≡ apply self.old (map change_of writes.now)) }
         ensures err { OnErr result
@@ -144,21 +144,30 @@ impl<'a, F: Facts> Facts for Overlay<'a, F> {
         least(left, self.added.scan(relation, column, value, past))
     }
 
-    fn holding(&self, update: u32, place: u32, past: Option<&Tuple>) -> Option<&Tuple> {
-        let below = self.facts.holding(update, place, past);
-        let course = Course::Holding(update, place);
+    fn holding(&self, name: OuterName, past: Option<&Tuple>) -> Option<&Tuple> {
+        let below = self.facts.holding(name, past);
+        let course = Course::Holding(name);
         let left = remaining(self.facts, &self.gone, &course, below);
-        least(left, self.added.holding(update, place, past))
+        least(left, self.added.holding(name, past))
     }
 
-    // What the set has at hand, where no write is among them, and else a few of both.
+    // The values that the set has at hand, if no tuple of the relation was added.
+    fn values(&self, relation: u16, column: u16) -> Option<&[Value]> {
+        if self.added.is_beside(relation) {
+            self.facts.values(relation, column)
+        } else {
+            None
+        }
+    }
+
+    // The set's own candidates if no write affects them, otherwise a few of set and writes merged.
     fn candidates(
         &self,
         relation: u16,
         column: Option<Column<'_>>,
         past: Option<&Tuple>,
     ) -> Candidates<'_> {
-        // The tuples that were added tell that they are in order.
+        // The tuples that were added promise that they are in order.
         self.added.is_in_order();
         let adds_none = self.added.is_beside(relation);
         if adds_none && self.gone.is_beside(relation) {
@@ -170,7 +179,7 @@ impl<'a, F: Facts> Facts for Overlay<'a, F> {
 }
 
 impl<'a, F: Facts> Overlay<'a, F> {
-    // The candidates, where a write may be among them.
+    // The candidates, if a write may affect them.
     fn written(
         &self,
         relation: u16,
@@ -189,7 +198,7 @@ impl<'a, F: Facts> Overlay<'a, F> {
     }
 }
 
-// The candidates of the set as writes leave it, of which these are the first that were added.
+// The candidates of the set as writes leave it, if `few` are the first of the added ones.
 #[inline(always)]
 fn with_few<'a, F: Facts>(
     facts: &'a F,

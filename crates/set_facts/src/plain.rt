@@ -6,9 +6,8 @@ ghost use Rattle.def_chase.specs.Cursors.{first_of};
 ghost use Rattle.base_types.specs.Meanings.{fact_of};
 ghost use Rattle.set_facts.specs.Courses.{is_ahead};
 
-use crate::holding::holds_null;
 use crate::scanned::{is_scanned, of_relation};
-use base_types::{Facts, Memory, TryCopy, Tuple, Value};
+use base_types::{Facts, Memory, OuterName, TryCopy, Tuple, Value};
 use std::alloc::Global;
 use std::cmp::Ordering;
 use std::collections::BTreeSet;
@@ -18,8 +17,8 @@ use std::ops::Bound;
 mod listed;
 mod ranges;
 
-/// A set of tuples in a balanced tree: insertions, deletions and cursors take steps as many as the logarithm of its
-/// size. Only a scan by column goes over the relation. Contracts see the list of its tuples, in order.
+/// A set of tuples in a balanced tree: insertions, deletions and cursors take steps logarithmic in its size. Only a scan by
+/// column goes over the whole relation. Contracts see the list of its tuples, in order.
 #[derive(Debug, Drop)]
 pub struct PlainFacts {
     tuples: BTreeSet<Tuple>,
@@ -51,14 +50,14 @@ impl PlainFacts {
         }
     }
 
-    /// How many tuples there are.
+    /// The number of tuples.
     pub fn len(&self) -> usize
         ensures length { result ≡ length self.now }
     {
         self.tuples.len()
     }
 
-    /// Puts a tuple in, and tells whether it is new. If it is refused, it hands the tuple back, and the set is unchanged.
+    /// Inserts a tuple, and returns whether it is new. If it is refused, it hands the tuple back, and the set is unchanged.
     pub fn insert(&mut self, tuple: Tuple) -> Result<bool, (Tuple, Memory)>
         ensures changed { IfOk result (λ changed. changed ≡ not (has self.old (fact_of tuple))) }
         ensures ok { OnOk result (self.new ≡ change self.old (Insert (fact_of tuple))) }
@@ -72,7 +71,7 @@ impl PlainFacts {
         }
     }
 
-    /// Takes a tuple away, and tells whether it was there.
+    /// Removes a tuple, and returns whether it was there.
     pub fn remove(&mut self, tuple: &Tuple) -> bool
         ensures changed { result ≡ has self.old (fact_of tuple.now) }
         ensures after { self.new ≡ change self.old (Delete (fact_of tuple.now)) }
@@ -81,7 +80,7 @@ impl PlainFacts {
         self.tuples.remove(tuple)
     }
 
-    // Whether the set ends before the relation: it is empty, or its last tuple is of a lesser one.
+    // Whether the set ends before the relation: it is empty, or its last tuple is of a lesser relation.
     fn ends_before(&self, relation: u16) -> bool
         ensures none { IsTrue result → first_of self.now relation ≡ None }
         ensures in_order { IsRepository self.now }
@@ -92,13 +91,13 @@ impl PlainFacts {
         }
     }
 
-    /// The least tuple of the relation that is above `past`, where that is given; None exactly where there is none.
+    /// The least tuple of the relation that is above `past`, if that is given; None exactly if there is none.
     pub(crate) fn next(&self, relation: u16, past: Option<&Tuple>) -> Option<&Tuple>
         ensures found { option_map fact_of (option_copied result) ≡
             find (is_ahead relation (option_map fact_of (option_copied past.entry))) self.now }
         ensures in_order { IsRepository self.now }
     {
-        // The set tells that it is in order.
+        // The set promises that it is in order.
         let _ = &self.tuples;
         match past {
             Some(before) => match before.relation.cmp(&relation) {
@@ -180,10 +179,10 @@ impl Facts for PlainFacts {
         None
     }
 
-    fn holding(&self, update: u32, place: u32, past: Option<&Tuple>) -> Option<&Tuple> {
+    fn holding(&self, name: OuterName, past: Option<&Tuple>) -> Option<&Tuple> {
         let mut cursor = self.beyond(past);
         while let Some(found) = cursor {
-            if holds_null(found, update, place) {
+            if found.holds_null(name) {
                 return Some(found);
             }
             cursor = self.beyond(Some(found));

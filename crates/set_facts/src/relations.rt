@@ -1,11 +1,11 @@
 //! The index of a set: for each relation, its columns.
-ghost use Rattle.std.specs.Prelude.{◌≡◌, ℕ, ◌<◌, length, unwrap_or, [], OnOk, OnErr};
+ghost use Rattle.std.specs.Prelude.{◌≡◌, ℕ, ◌<◌, length, map, unwrap_or, [], OnOk, OnErr};
 ghost use Rattle.std.specs.Option.{option_copied};
 ghost use Rattle.def_chase.specs.Repository.{has};
 ghost use Rattle.base_types.specs.Meanings.{fact_of, datum_of};
-ghost use Rattle.set_facts.specs.Indexes.{columns_of, kept_at, AddsAtMost, AddsAll, DropsAll, AddsAtMostOne, AddsOne, DropsOne};
+ghost use Rattle.set_facts.specs.Indexes.{columns_of, kept_at, values_kept, AddsAtMost, AddsAll, DropsAll, AddsAtMostOne, AddsOne, DropsOne};
 
-use crate::columns::{Groups, group, index, sweep};
+use crate::columns::{Groups, group, index, sweep, values as values_in};
 use crate::group::Group;
 use base_types::{Facts, Memory, Tuple, Value};
 use std::alloc::Global;
@@ -29,6 +29,16 @@ pub fn kept<'a>(
     }
 }
 
+/// The values at which the relation keeps tuples in the column.
+pub fn values(relations: &Vec<Columns>, relation: u16, column: u16) -> &[Value]
+    ensures values { map datum_of result.now ≡ values_kept relations.now.items relation column }
+{
+    match relations.get(relation as usize) {
+        Some(columns) => values_in(columns, column as usize),
+        None => &[],
+    }
+}
+
 /// Whether the tuple's relation keeps it at the value of the column.
 pub fn keeps(relations: &Vec<Columns>, column: u16, value: &Value, tuple: &Tuple) -> bool
     ensures kept { result ≡ has
@@ -41,8 +51,8 @@ pub fn keeps(relations: &Vec<Columns>, column: u16, value: &Value, tuple: &Tuple
     }
 }
 
-/// Keeps a copy of the tuple in each column of its relation. If it is refused, some of its columns may keep it, and what else is
-/// kept is as before.
+/// Keeps a copy of the tuple in each column of its relation. If it is refused, some of the columns may keep the tuple; nothing
+/// else changes.
 pub fn keep(relations: &mut Vec<Columns>, alloc: Global, tuple: &Tuple) -> Result<(), Memory>
     ensures ok { OnOk result (AddsOne (fact_of tuple.now) relations.old.items relations.new.items) }
     ensures err { OnErr result
@@ -77,7 +87,7 @@ fn keep_at(
     index(&mut relations[relation], alloc, tuple)
 }
 
-// Makes the relations up to this one, where they are not there yet.
+// Makes the relations up to this one, if they do not exist yet.
 fn reach(relations: &mut Vec<Columns>, alloc: Global, relation: usize) -> Result<(), Memory>
     ensures same { (r : ℕ) → columns_of relations.new.items r ≡ columns_of relations.old.items r }
     ensures there { OnOk result (relation < length relations.new.items) }

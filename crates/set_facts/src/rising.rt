@@ -9,9 +9,9 @@ use base_types::{Facts, Memory, Tuple, TupleList};
 use std::alloc::Global;
 use std::marker::Model;
 
-/// A set of tuples, put in one by one. As long as each belongs near the end they are a list, which is given back as it is, and
-/// costs one comparison for a tuple behind all before it; from the first one on that does not, they are a balanced tree. Contracts
-/// see the list of its tuples, in order.
+/// A set of tuples that are put in one by one. As long as each belongs near the end, the set is a list, which `into_list` returns
+/// as it is; a tuple after all others costs one comparison. With the first tuple that belongs elsewhere it becomes a balanced
+/// tree. Contracts see the list of its tuples, in order.
 #[derive(Drop)]
 pub struct RisingFacts {
     held: Held,
@@ -43,7 +43,7 @@ impl RisingFacts {
         }
     }
 
-    /// How many tuples there are.
+    /// The number of tuples.
     pub fn len(&self) -> usize
         ensures length { result ≡ length self.now }
     {
@@ -53,7 +53,7 @@ impl RisingFacts {
         }
     }
 
-    /// Puts a tuple in, and tells whether it is new. If it is refused, it hands the tuple back, and the set is unchanged.
+    /// Inserts a tuple, and returns whether it is new. If it is refused, it hands the tuple back, and the set is unchanged.
     pub fn insert(&mut self, tuple: Tuple) -> Result<bool, (Tuple, Memory)>
         ensures changed { IfOk result (λ changed. changed ≡ not (has self.old (fact_of tuple))) }
         ensures ok { OnOk result (self.new ≡ change self.old (Insert (fact_of tuple))) }
@@ -88,7 +88,7 @@ impl RisingFacts {
         Ok(added)
     }
 
-    /// Whether the tuple is there. If it is refused, the set stays as it is.
+    /// Whether the tuple is there. Its tuples stay the same.
     pub fn find(&mut self, tuple: &Tuple) -> Result<bool, Memory>
         ensures answer { IfOk result (λ there. there ≡ has self.old (fact_of tuple.now)) }
         ensures same { self.new ≡ self.old }

@@ -1,4 +1,4 @@
-//! Which of the tuples that are gone over a cursor stops at.
+//! The tests by which a cursor decides whether to stop at a tuple.
 ghost use Rattle.std.specs.Prelude.{◌≡◌, ◌&&◌};
 ghost use Rattle.std.specs.Option.{option_map, option_copied};
 ghost use Rattle.def_chase.specs.Cursors.{is_of, kept_if, is_scanned as is_scanned_tuple, is_beyond as is_beyond_tuple, has_at as has_datum_at};
@@ -7,7 +7,7 @@ ghost use Rattle.base_types.specs.Meanings.{fact_of, datum_of};
 
 use base_types::{Column, Tuple, Value};
 
-/// Whether the tuple is of the relation, beyond `past` where that is given, and has the value in the column.
+/// Whether the tuple is of the relation, beyond `past` if that is given, and has the value in the column.
 pub fn is_scanned(
     tuple: &Tuple,
     relation: u16,
@@ -21,7 +21,7 @@ pub fn is_scanned(
     tuple.relation == relation && has_at(tuple, column, value) && is_beyond(past, tuple)
 }
 
-/// Whether the tuple is of the relation and has the column's value, where a column is given.
+/// Whether the tuple is of the relation and has the column's value, if a column is given.
 pub fn is_candidate(tuple: &Tuple, relation: u16, column: Option<Column<'_>>) -> bool
     ensures answer { result ≡ is_candidate_tuple relation (option_map column_of column.entry)
         (fact_of tuple.now) }
@@ -35,7 +35,7 @@ pub fn is_candidate(tuple: &Tuple, relation: u16, column: Option<Column<'_>>) ->
     }
 }
 
-/// The same, and whether it comes after `past`, where that is given.
+/// Whether the tuple is of the relation, has the column's value, if a column is given, and comes after `past`, if that is given.
 pub fn is_further(
     tuple: &Tuple,
     relation: u16,
@@ -49,7 +49,7 @@ pub fn is_further(
     is_candidate(tuple, relation, column) && is_beyond(past, tuple)
 }
 
-/// Whether the tuple comes after `past`, where that is given.
+/// Whether the tuple comes after `past`, if that is given.
 pub fn is_beyond(past: Option<&Tuple>, tuple: &Tuple) -> bool
     ensures answer { result ≡ is_beyond_tuple (option_map fact_of (option_copied past.entry))
         (fact_of tuple.now) }
@@ -70,7 +70,7 @@ fn has_at(tuple: &Tuple, column: u16, value: &Value) -> bool
     }
 }
 
-/// What was found, if it is of the relation.
+/// The tuple that was found, if it is of the relation.
 pub fn of_relation(found: Option<&Tuple>, relation: u16) -> Option<&Tuple>
     ensures kept { option_map fact_of (option_copied result) ≡
         kept_if (is_of relation) (option_map fact_of (option_copied found.entry)) }

@@ -3,7 +3,6 @@ use denote.RattleType.{RattleType}
 use denote.Param.Send.{IsSend, IsSync, sendable, view_send, view_sync}
 use Rattle.std.proofs.Crossing.{crosses, frees}
 use Rattle.std.proofs.Crossing as heap
-use Rattle.std.proofs.MapsCrossing as maps
 use Rattle.std.proofs.MapsCrossingOver.{BTreeSet-send, BTreeSet-sync}
 use Rattle.base_types.specs.contracts.values.Value as values
 use Rattle.base_tree.proofs.branch.Branch.TheLaws.TheKnot as tree
@@ -20,6 +19,7 @@ use Rattle.set_versions.specs.contracts.spreads.Shelves as shelves
 use Rattle.set_versions.specs.contracts.tables.Table as tables
 use Rattle.set_versions.specs.contracts.taken.Taken as taken
 use Rattle.set_versions.specs.contracts.versions.Versions as versions
+use Rattle.set_facts.proofs.Crossing.{IndexMap-send, IndexMap-sync}
 use Rattle.set_facts.specs.contracts.plain.PlainFacts as plain
 use Rattle.set_facts.specs.contracts.plain.PlainFacts.TheInside as plain_inside
 use Rattle.set_facts.specs.contracts.listed.ListedFacts as listed
@@ -142,10 +142,10 @@ value_sync : IsSync values.the_row
 value_sync = search (sendable, crosses) depth 40 fits 4000
 
 base_inside_send : IsSend base_inside.the_row
-base_inside_send = search (sendable, crosses, maps.crosses, heap.send, value_send, plain_send, group_send) depth 40 fits 4000
+base_inside_send = search (sendable, crosses, IndexMap-send, heap.send, value_send, plain_send, group_send) depth 40 fits 4000
 
 base_inside_sync : IsSync base_inside.the_row
-base_inside_sync = search (sendable, crosses, maps.crosses, heap.sync, value_sync, plain_sync, group_sync) depth 40 fits 4000
+base_inside_sync = search (sendable, crosses, IndexMap-sync, heap.sync, value_sync, plain_sync, group_sync) depth 40 fits 4000
 
 base_send : IsSend base.the_row
 base_send = view_send _ _ _ _ _ base_inside_send

@@ -2,6 +2,6 @@
 use Rattle.std.specs.Prelude.{true, []}
 use Rattle.set_versions.specs.declared.marks.Marks.{Marks}
 
--- What is known of a tuple that the base has and no update wrote.
+-- The marks of a tuple that the base has and no update wrote.
 abbrev pub base_marks : Marks
 base_marks = record { in_base = true; chain = [] }

@@ -8,7 +8,7 @@ use Rattle.std.specs.declared.cmp.Ordering.{Ordering}
 use Rattle.def_chase.specs.Values.{Datum, Fact, datum_cmp, fact_cmp}
 use Rattle.def_chase.proofs.Order.{datum_total, fact_total}
 
--- The value of the cell, where the tuple has the column.
+-- The value in the cell, if the tuple has the column.
 abbrev pub value_in : ℕ × Fact → Option Datum
 value_in x = slice_get x.1.values x.0
 
@@ -18,7 +18,7 @@ values_cmp = option_cmp datum_cmp
 abbrev pub cell_cmp : ℕ × Fact → ℕ × Fact → Ordering
 cell_cmp x y = ordering_then (nat_cmp x.0 y.0) (ordering_then (values_cmp (value_in x) (value_in y)) (fact_cmp x.1 y.1))
 
--- The cells are one.
+-- The two cells are the same.
 abbrev pub same_cell : ℕ × Fact → ℕ × Fact → Bool
 same_cell x y = is_eq (cell_cmp x y)
 

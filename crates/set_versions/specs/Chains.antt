@@ -1,4 +1,4 @@
--- What is kept of each tuple, in order.
+-- The marks of each tuple are in order.
 use Rattle.std.specs.Prelude.{ℕ, List}
 use Rattle.std.specs.List.{AllByRecursion}
 use Rattle.std.specs.Ordering.{nat_cmp, on}
@@ -10,7 +10,7 @@ use Rattle.def_chase.specs.Values.{fact_cmp}
 use Rattle.base_tree.specs.Orders.{IsOrdered}
 use Rattle.set_versions.specs.declared.marks.Marks.{Marks}
 
--- The greatest number comes first.
+-- The order of markers: the greatest number comes first.
 abbrev pub newest_cmp : Reverse ℕ → Reverse ℕ → Ordering
 newest_cmp x y = nat_cmp y.0 x.0
 
@@ -18,7 +18,7 @@ newest_cmp x y = nat_cmp y.0 x.0
 abbrev pub AreMarks : Marks → Type 0
 AreMarks m = IsOrdered newest_cmp m.chain
 
--- The same of each tuple.
+-- The markers of each tuple are in the order of their numbers.
 abbrev pub AllMarked : List (Tuple × Marks) → Type 0
 AllMarked rows = AllByRecursion (λ e. AreMarks e.1) rows
 

@@ -1,4 +1,5 @@
--- An index by cells: each tuple with its marks once more for each of its further columns. By the first the rows are in order.
+-- An index by cells: each tuple with its marks once more for each column after the first. The first needs none, as the rows are
+-- in its order.
 use Rattle.std.specs.Prelude.{◌≡◌, ℕ, Bool, ◌&&◌, cond, List, find, length, nat_lt, unwrap_or, Option, Some, None, ⊤}
 use Rattle.std.specs.BTreeMap.{insert_entry}
 use Rattle.std.specs.Option.{option_map}
@@ -19,15 +20,15 @@ use Rattle.set_versions.specs.declared.marks.Marks.{Marks}
 abbrev pub cell_of : Cell → ℕ × Fact
 cell_of c = (c.column, fact_of c.tuple)
 
--- What these cells tell of tuple t at column c.
+-- The marks of tuple t at column c among these cells.
 abbrev pub cell_marks : List (Cell × Marks) → ℕ → Fact → Marks
 cell_marks cells c t = unwrap_or (option_map (λ e. e.1) (find (λ e. same_cell (c, t) (cell_of e.0)) cells)) no_marks
 
--- What is known of tuple t at column c: what the shelf of the cell's spot tells.
+-- The marks of tuple t at column c, found on the shelf of the cell's spot.
 abbrev pub shelf_marks : (ℕ → List (Cell × Marks)) → ℕ → Fact → Marks
 shelf_marks shelves c t = cell_marks (shelves (spot_of (c, t))) c t
 
--- Column c is not the first, and below n.
+-- Column c is a further one: not the first, and below n.
 abbrev pub is_further : ℕ → ℕ → Bool
 is_further c n = nat_lt 0 c && nat_lt c n
 
@@ -35,26 +36,26 @@ is_further c n = nat_lt 0 c && nat_lt c n
 abbrev pub IsIndex : List (Tuple × Marks) → (ℕ → List (Cell × Marks)) → Type 0
 IsIndex rows shelves = (c : ℕ) (t : Fact) → shelf_marks shelves c t ≡ cond (is_further c (length t.values)) (marks_at rows t) no_marks
 
--- Tuple s has the marks m at each of its further columns below n, and the others have what they had.
+-- Tuple s has the marks m at each of its further columns below n, and all other marks are unchanged.
 abbrev pub CellsHave : Fact → ℕ → Marks → (ℕ → List (Cell × Marks)) → (ℕ → List (Cell × Marks)) → Type 0
 CellsHave s n m old new = (c : ℕ) (t : Fact) → shelf_marks new c t ≡ cond (same_fact t s && is_further c n) m (shelf_marks old c t)
 
--- The same at column i alone, if that is a further one.
+-- Tuple s has the marks m at column i, if that is a further one, and all other marks are unchanged.
 abbrev pub CellHas : Fact → ℕ → Marks → (ℕ → List (Cell × Marks)) → (ℕ → List (Cell × Marks)) → Type 0
 CellHas s i m old new = (c : ℕ) (t : Fact) → shelf_marks new c t ≡ cond (same_fact t s && (nat_lt 0 c && is_eq (nat_cmp c i))) m (shelf_marks old c t)
 
--- Where there is an index, it is one of the rows.
+-- If there is an index, it is the index of the rows.
 abbrev pub IsIndexed : List (Tuple × Marks) → Option Spots → Type 0
 IsIndexed rows None = ⊤
 IsIndexed rows (Some spots) = IsIndex rows (on_spots spots)
 
--- Where there was an index there is one, and it has the marks m at each further column of s.
+-- There is an index if there was one, and then it has the marks m at each further column of s.
 abbrev pub IndexHas : Fact → Marks → Option Spots → Option Spots → Type 0
 IndexHas s m None None = ⊤
 IndexHas s m None (Some new) = ⊥
 IndexHas s m (Some old) None = ⊥
 IndexHas s m (Some old) (Some new) = CellsHave s (length s.values) m (on_spots old) (on_spots new)
 
--- The entries with m at the key, or without it where m says that the tuple is nowhere.
+-- The entries with m at the key, or without the key if m says that the tuple is nowhere.
 abbrev pub set_entry : {K : Type 0} → (K → K → Ordering) → List (K × Marks) → K → Marks → List (K × Marks)
 set_entry R es k m = cond (is_nowhere m) (without R k es) (insert_entry R es k m)

@@ -1,4 +1,4 @@
--- What marks say of a tuple, and the tuples that an update sees.
+-- The meaning of the marks of a tuple, and the tuples that an update sees.
 use Rattle.std.specs.Prelude.{ℕ, ◌==◌, Bool, false, not, ◌&&◌, cond, List, [], Option, Some, None, filter, find, map, unwrap_or, length}
 use Rattle.std.specs.Option.{is_some, option_map}
 use Rattle.base_types.specs.declared.tuples.Tuple.{Tuple}
@@ -11,7 +11,7 @@ use Rattle.set_versions.specs.Chains.{newest_cmp}
 use Rattle.set_versions.specs.Unders.{is_under}
 use Rattle.set_versions.specs.declared.marks.Marks.{Marks}
 
--- Whether the tuple is there for update n: by the last marker of a lower update, and else by the base.
+-- Whether update n sees the tuple: the last marker of a lower update decides, or the base if there is none.
 abbrev pub stands : ℕ → Marks → Bool
 stands n m = unwrap_or (option_map (λ e. e.1) (find (λ e. is_under n e.0) m.chain)) m.in_base
 
@@ -23,7 +23,7 @@ is_marked n m = is_some (find (is_at newest_cmp (record { 0 = n })) m.chain)
 abbrev pub is_row_by : ℕ → ℕ → Tuple × Marks → Bool
 is_row_by n r e = is_of r (fact_of e.0) && is_marked n e.1
 
--- What is known of a tuple that is nowhere.
+-- The marks of a tuple that is nowhere.
 abbrev pub no_marks : Marks
 no_marks = record { in_base = false; chain = [] }
 
@@ -35,7 +35,7 @@ is_nowhere m = not m.in_base && (length m.chain == 0)
 abbrev pub is_based : Marks → Bool
 is_based m = m.in_base && (length m.chain == 0)
 
--- What rows tell of tuple t.
+-- The marks of tuple t in the rows.
 abbrev pub marks_at : List (Tuple × Marks) → Fact → Marks
 marks_at rows t = unwrap_or (option_map (λ e. e.1) (find (λ e. same_fact t (fact_of e.0)) rows)) no_marks
 
@@ -43,7 +43,7 @@ marks_at rows t = unwrap_or (option_map (λ e. e.1) (find (λ e. same_fact t (fa
 abbrev pub visible : ℕ → List (Tuple × Marks) → List Fact
 visible n rows = map (λ e. fact_of e.0) (filter (λ e. stands n e.1) rows)
 
--- The tuple that was put, if there is one and the one that is gone does not come before it.
+-- The first tuple, if it is there and the second one does not come before it.
 abbrev pub put_first : Option Fact → Option Fact → Option Fact
 put_first None s = None
 put_first (Some t) None = Some t

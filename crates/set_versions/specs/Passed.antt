@@ -6,11 +6,11 @@ use Rattle.def_chase.specs.Repository.{IsRepository}
 use Rattle.def_chase.specs.Values.{Fact}
 use Rattle.set_versions.specs.declared.passing.Passing.{Passing}
 
--- The list of them.
+-- The list of the tuples that are still to be passed.
 abbrev pub to_pass : Passing → List Fact
 to_pass p = map (λ e. fact_of e.0) (option_to_list (option_copied p.next) ++ p.rest)
 
--- They are in order, and where there is no first there is none.
+-- The tuples to be passed are in order, and `next` is the first of them, if there is any.
 pub record AreToPass (p : Passing) : Type 0 where
   pub order : IsRepository (to_pass p)
   pub end : IfNone p.next (p.rest ≡ [])

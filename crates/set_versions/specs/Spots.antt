@@ -1,20 +1,20 @@
--- The spots of cells: numbers by which the cells of one relation with one value in one column lie together.
+-- The spots of cells: cells of one relation with the same value in the same column have the same spot.
 use Rattle.std.specs.Prelude.{ℕ, ◌+◌, ◌*◌, ◌%◌, unsigned_abs, List, [], ◌∷◌, Option, Some, None}
 use Rattle.def_chase.specs.Values.{Datum, Number, Text, Unknown, Fact}
 use Rattle.set_versions.specs.Cells.{value_in}
 
--- A number by which a word is told from most others, byte by byte.
+-- A number that differs for most different words, computed byte by byte.
 abbrev pub digest_from : ℕ → List ℕ → ℕ
 digest_from n [] = n
 digest_from n (b ∷ bs) = digest_from ((n * 31 + b) % 65521) bs
 
--- The same of a value.
+-- A number that differs for most different values.
 abbrev pub digest : Datum → ℕ
 digest (Number i) = unsigned_abs i
 digest (Text w) = digest_from 0 w
 digest (Unknown n) = n.update + n.place
 
--- The spot of relation r, column c and the value there, where there is one.
+-- The spot of relation r, column c and the value there, if there is one.
 abbrev pub spot : ℕ → ℕ → Option Datum → ℕ
 spot r c None = 0
 spot r c (Some d) = (digest d % 251 + (c % 8 * 31 + r * 37)) % 256

@@ -1,4 +1,4 @@
--- The writes of updates: a trail is those of one update, and a function gives the trail of each number.
+-- The writes of updates: a trail is the writes of one update, and a function gives the trail of each number.
 use Rattle.std.specs.Prelude.{◌≡◌, ℕ, zero, suc, ◌==◌, Bool, List, [], ◌++◌, Option, Some, None}
 use Rattle.std.specs.List.{list_any, slice_get}
 use Rattle.def_chase.specs.Repository.{Change}
@@ -8,7 +8,7 @@ use Rattle.def_steps.specs.Chase.{relation_of}
 abbrev pub no_trails : ℕ → List Change
 no_trails n = []
 
--- All updates but n have the trails that they had.
+-- All updates except n keep their trails.
 abbrev pub SameBut : ℕ → (ℕ → List Change) → (ℕ → List Change) → Type 0
 SameBut n before after = (v : ℕ) → (v ≡ n → ⊥) → after v ≡ before v
 
@@ -21,7 +21,7 @@ writes_below trail (suc n) = writes_below trail n ++ trail n
 abbrev pub writes_to : ℕ → List Change → Bool
 writes_to r ws = list_any (λ w. relation_of w == r) ws
 
--- The trail of an item, where there is one.
+-- The trail of an item, if there is one.
 abbrev pub trail_at : {X : Type 0} → (X → List Change) → Option X → List Change
 trail_at f None = []
 trail_at f (Some x) = f x

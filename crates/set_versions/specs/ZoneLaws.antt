@@ -1,4 +1,4 @@
--- What lies before what is looked for, or past it, stays so on the way down or up.
+-- If a key lies before the keys that are searched for, so do all keys below it; if it lies after them, so do all keys above it.
 use Rattle.std.proofs.Common.{◌≡◌, ℕ, ap, refl, sym, ◌∙◌, Bool, true, false, cond, Option, Some, None, List, [], ◌∷◌, slice_get}
 use Rattle.std.specs.Cmp.{IsTotalOrder, nat_cmp_total}
 use Rattle.std.specs.Cmp.Lexicographic.{options_total, slice_cmp}
@@ -31,7 +31,7 @@ module _ {X Y : Type 0} {P : Y → Y → Ordering} (o : IsTotalOrder P) (f : X �
   less_down : P k (f x) ≡ Greater → ordering_then (P (f x) k) (q x) ≡ Less
   less_down h = ap (λ a. ordering_then a (q x)) (o.antisymm (f x) k ∙ ap ordering_reverse h)
 
-  -- Past what is looked for, by a first comparison with k and then by q, all keys that come later are.
+  -- If a key lies after the searched ones, by a first comparison with k and then by q, so do all keys that come later.
   then_past : (P (f x) (f y) ≡ Greater → ⊥) → (P (f x) (f y) ≡ Equal → q x ≡ Greater → q y ≡ Greater) → ordering_then (P (f x) k) (q x) ≡ Greater → ordering_then (P (f y) k) (q y) ≡ Greater
   then_past up past = by (P (f x) (f y)) refl (P (f x) k) refl
     where
@@ -44,7 +44,7 @@ module _ {X Y : Type 0} {P : Y → Y → Ordering} (o : IsTotalOrder P) (f : X �
       by Equal i Greater j h = ap (λ a. ordering_then a (q y)) (sym (o.congr (f x) (f y) k i) ∙ j)
       by Greater i b j h = absurd (up i)
 
-  -- Before it, all keys that come earlier are.
+  -- If a key lies before them, so do all keys that come earlier.
   then_before : (P (f x) (f y) ≡ Greater → ⊥) → (P (f x) (f y) ≡ Equal → q y ≡ Less → q x ≡ Less) → ordering_then (P (f y) k) (q y) ≡ Less → ordering_then (P (f x) k) (q x) ≡ Less
   then_before up before = by (P (f x) (f y)) refl (P (f y) k) refl
     where

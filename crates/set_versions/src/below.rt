@@ -1,12 +1,12 @@
-//! What an update sees: the base with the writes of lower updates.
+//! The set that an update sees: the base with the writes of lower updates.
 ghost use Rattle.std.specs.Prelude.{◌≡◌};
 ghost use Rattle.set_versions.specs.Standing.{seen};
 
 use crate::sweeps::Sweep;
 use crate::versions::Versions;
-use base_types::{Candidates, Column, Facts, Tuple, Value};
+use base_types::{Candidates, Column, Facts, OuterName, Tuple, Value};
 
-/// The versions as they are for one update.
+/// The versions as one update sees them.
 #[derive(Drop)]
 pub struct Below<'v> {
     pub versions: &'v Versions,
@@ -66,7 +66,11 @@ impl<'v> Facts for Below<'v> {
             .candidates(self.number, relation, column, past)
     }
 
-    fn holding(&self, update: u32, place: u32, past: Option<&Tuple>) -> Option<&Tuple> {
-        self.versions.holding(self.number, update, place, past)
+    fn holding(&self, name: OuterName, past: Option<&Tuple>) -> Option<&Tuple> {
+        self.versions.holding(self.number, name, past)
+    }
+
+    fn values(&self, relation: u16, column: u16) -> Option<&[Value]> {
+        self.versions.values(self.number, relation, column)
     }
 }

@@ -32,14 +32,14 @@ impl Share for Cell {
 }
 
 impl Cell {
-    /// The value there, where the tuple has the column.
+    /// The value in the column, if the tuple has the column.
     pub fn value(&self) -> Option<&Value>
         ensures { option_map datum_of (option_copied result) ≡ value_in (cell_of self.now) }
     {
         self.tuple.get().values.get(self.column)
     }
 
-    /// Its spot.
+    /// The spot of the cell.
     pub fn spot(&self) -> u32
         ensures { result ≡ spot_of (cell_of self.now) }
     {
@@ -47,7 +47,7 @@ impl Cell {
     }
 }
 
-/// How two values compare, where nothing comes before every value.
+/// The order of two values; no value comes before every value.
 pub fn values_order(here: Option<&Value>, there: Option<&Value>) -> Ordering
     ensures { result
         ≡ values_cmp (option_map datum_of (option_copied here.entry))

@@ -1,4 +1,4 @@
-// Versions, and what an update sees of them, are Send and Sync.
+// Versions, and the views that updates have of them, are Send and Sync.
 
 use crate::below::Below;
 use crate::cells::Cell;

@@ -8,8 +8,7 @@ use base_tree::{Share, TreeMap};
 use def_memory::Memory;
 use std::alloc::Global;
 
-/// Puts the marks at the key; takes the key out where they say that the tuple is nowhere. For want of memory nothing is
-/// changed.
+/// Puts the marks at the key, or takes the key out if the marks say that the tuple is nowhere. If it is refused, nothing changes.
 pub fn set<K: Ord + Share>(
     map: &mut TreeMap<K, Marks>,
     alloc: Global,

@@ -14,7 +14,7 @@ use std::alloc::AllocError;
 use std::cmp::Ordering;
 use std::marker::Model;
 
-/// A handle of a tuple. Contracts see the tuple.
+/// A handle to a tuple. Contracts see the tuple.
 #[derive(Drop)]
 pub struct Handle {
     rank: u64,
@@ -36,7 +36,7 @@ impl Model for Handle {
 }
 
 impl Handle {
-    /// A handle of the tuple.
+    /// A handle to the tuple.
     pub fn new(tuple: Tuple) -> Handle
         ensures same { result ≡ tuple }
     {

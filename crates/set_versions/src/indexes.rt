@@ -1,4 +1,4 @@
-//! The index of a table: the marks of each tuple once more at each of its further columns, by cell.
+//! The index of a table: the marks of each tuple, held once more for each column after the first, by cell.
 ghost use Rattle.std.specs.Prelude.{◌≡◌, length, IfOk, OnOk};
 ghost use Rattle.base_types.specs.Meanings.{fact_of};
 ghost use Rattle.set_versions.specs.Indexed.{CellHas, CellsHave, IndexHas};
@@ -12,7 +12,7 @@ use base_tree::Share;
 use def_memory::Memory;
 use std::alloc::{AllocError, Global};
 
-/// Another handle to the index, where there is one.
+/// Another handle to the index, if there is one.
 pub fn shared(index: &Option<Spots>) -> Result<Option<Spots>, AllocError>
     ensures same { IfOk result (λ copy. copy ≡ index.now) }
 {
@@ -22,7 +22,7 @@ pub fn shared(index: &Option<Spots>) -> Result<Option<Spots>, AllocError>
     }
 }
 
-/// The index with the marks at each further cell of the tuple, where there is one. For want of memory it is let go.
+/// The index, if there is one, with the marks at each cell of the tuple after the first. If it is refused, the index is dropped.
 pub fn indexed(
     index: Option<Spots>,
     alloc: Global,
@@ -40,7 +40,7 @@ pub fn indexed(
     }
 }
 
-// Puts the marks at each further cell of the tuple.
+// Puts the marks at each cell of the tuple after the first.
 fn set_cells(cells: &mut Spots, alloc: Global, tuple: &Handle, marks: &Marks) -> Result<(), Memory>
     ensures ok { OnOk result
         (CellsHave (fact_of tuple.now) (length (fact_of tuple.now).values) marks.now

@@ -1,4 +1,4 @@
-//! What versions stand for. Each law is the contract of a function that does nothing.
+//! The meaning of versions. Each law is the contract of a function that does nothing.
 ghost use Rattle.set_versions.specs.Standing.{SeenLaw, BelowLaw};
 
 /// An update sees the base with the writes of the lower updates, in the order of their numbers.
@@ -6,7 +6,7 @@ pub fn seen_is_applied()
     ensures { SeenLaw }
 {}
 
-/// In a history of the chase an update sees what lies below it.
+/// In a history of the chase an update sees the repository below it.
 pub fn below_is_seen()
     ensures { BelowLaw }
 {}

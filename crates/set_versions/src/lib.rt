@@ -1,5 +1,5 @@
-//! The versions of a repository: a base, and for each tuple that updates wrote which put it in or took it out. `README.md` has the
-//! contract, and `specs/Standing.antt` what versions stand for.
+//! The versions of a repository: a base, and for each written tuple which updates put it in or took it out. `README.md` has the
+//! contract, and `specs/Standing.antt` defines the meaning of versions.
 #![tactic(auto)]
 
 mod below;

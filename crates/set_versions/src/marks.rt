@@ -1,4 +1,4 @@
-//! What is known of one tuple.
+//! The marks of one tuple.
 ghost use Rattle.std.specs.Prelude.{◌≡◌, OnOk, OnErr};
 ghost use Rattle.set_versions.specs.Chains.{AreMarks};
 ghost use Rattle.set_versions.specs.Based.{base_marks};
@@ -11,8 +11,8 @@ use def_memory::Memory;
 use std::alloc::{AllocError, Global};
 use std::cmp::Reverse;
 
-/// The markers of a tuple by the numbers of their updates, the greatest first: whether the update's last write of it was
-/// an insertion.
+/// The markers of a tuple by the number of the update, the greatest first. A marker says whether the update's last write of the
+/// tuple was an insertion.
 pub type Chain = TreeMap<Reverse<u32>, bool>;
 
 /// Whether the base has the tuple, and its markers.
@@ -22,7 +22,7 @@ pub struct Marks {
     pub chain: Chain,
 }
 
-/// What is done to the marks of a tuple: an update's marker is put in or taken out, or goes over into the base.
+/// A change to the marks of a tuple: an update's marker is put in, taken out, or moved into the base.
 #[derive(Clone, Copy)]
 pub enum Touch {
     Mark(u32, bool),
@@ -76,7 +76,7 @@ impl Marks {
         }
     }
 
-    /// Touches the marks. If it is refused, nothing is changed.
+    /// Changes the marks. If it is refused, nothing changes.
     pub fn touch(&mut self, alloc: Global, touch: Touch) -> Result<(), Memory>
         ensures ok { OnOk result (self.new ≡ touched touch self.old) }
         ensures err { OnErr result (self.new ≡ self.old) }
@@ -125,7 +125,7 @@ impl Marks {
         }
     }
 
-    /// Whether the tuple is there for the update.
+    /// Whether the update sees the tuple.
     pub fn stands(&self, number: u32) -> bool
         ensures { result ≡ stands_def number self.now }
     {

@@ -1,4 +1,4 @@
-//! What is looked for among the marked tuples by a null that it holds.
+//! Searches among the marked tuples by a null that they hold.
 ghost use Rattle.std.specs.Prelude.{◌&&◌};
 ghost use Rattle.std.specs.Option.{option_map, option_copied};
 ghost use Rattle.def_chase.specs.Queries.{holds_null as holds_null_def};
@@ -11,23 +11,21 @@ use crate::handles::Handle;
 use crate::marks::Marks;
 use crate::searches::place_after;
 use base_tree::Search;
-use base_types::Tuple;
-use set_facts::holds_null;
+use base_types::{OuterName, Tuple};
 use std::cmp::Ordering;
 
-/// What comes after a tuple, where one is given, is there for the update, and holds a null that the drawer drew at the place.
+/// A search for tuples that come after `past`, if that is given, that update `number` sees, and that hold a null of the name.
 #[derive(Drop)]
 pub struct WithNull<'c> {
     pub number: u32,
-    pub drawer: u32,
-    pub at: u32,
+    pub name: OuterName,
     pub past: Option<&'c Tuple>,
 }
 
 impl<'c> Search<Handle, Marks> for WithNull<'c> {
     ghost place = { λ s k. place_beyond (option_map fact_of (option_copied s.past)) (fact_of k) };
 
-    ghost passes = { λ s e. stands s.number e.1 && holds_null_def s.drawer s.at (fact_of e.0) };
+    ghost passes = { λ s e. stands s.number e.1 && holds_null_def s.name.update s.name.place (fact_of e.0) };
 
     ghost stays_past = { λ s x y. beyond_past (option_map fact_of (option_copied s.past)) (fact_of x) (fact_of y) };
 
@@ -38,6 +36,6 @@ impl<'c> Search<Handle, Marks> for WithNull<'c> {
     }
 
     fn passes(&self, entry: &(Handle, Marks)) -> bool {
-        entry.1.stands(self.number) && holds_null(entry.0.get(), self.drawer, self.at)
+        entry.1.stands(self.number) && entry.0.get().holds_null(self.name)
     }
 }

@@ -1,4 +1,4 @@
-//! Passing the taken tuples in order, beside tuples that are gone over.
+//! A pass over the taken tuples in order, alongside a pass over other tuples.
 ghost use Rattle.std.specs.Prelude.{◌≡◌, map};
 ghost use Rattle.std.specs.declared.cmp.Ordering.TheVariants.{Less};
 ghost use Rattle.def_chase.specs.Repository.{has, IsRepository};
@@ -14,13 +14,13 @@ use std::cmp::Ordering;
 /// The taken tuples that are still to be passed.
 #[derive(Drop)]
 pub struct Passing<'a> {
-    // The first of them, and those behind it.
+    // The first of them, and the tuples after it.
     pub(crate) next: Option<&'a (Handle, ())>,
     pub(crate) rest: Cursor<'a, Handle, ()>,
 }
 
 impl<'a> Passing<'a> {
-    /// All tuples that the cursor has before it.
+    /// All tuples that are ahead of the cursor.
     pub fn of(rest: Cursor<'a, Handle, ()>) -> Passing<'a>
         requires in_order { IsRepository (map (λ e. fact_of e.0) rest) }
         ensures all { to_pass result ≡ map (λ e. fact_of e.0) rest.entry }
@@ -31,7 +31,7 @@ impl<'a> Passing<'a> {
         Passing { next, rest }
     }
 
-    /// Whether the tuple is among them. Those below it are passed.
+    /// Whether the tuple is among them. The tuples below it are passed.
     pub fn has(&mut self, tuple: &Tuple) -> bool
         requires ready { AreToPass self.old }
         ensures answer { result ≡ has (to_pass self.old) (fact_of tuple.now) }

@@ -6,10 +6,10 @@ ghost use Rattle.set_versions.specs.Ranks.{first_byte, behind_byte, word_rank as
 
 use base_types::{Null, Tuple, Value};
 
-// What the ranks of numbers, and those of words, stay below.
+// The bound of the ranks of numbers, and of the ranks of words among words.
 const KIND_SPAN: u64 = 1 << 46;
 
-// What the ranks of values stay below.
+// The bound of the ranks of values.
 const VALUE_SPAN: u64 = 1 << 48;
 
 // The rank of the number 0.
@@ -22,7 +22,7 @@ pub fn rank(tuple: &Tuple) -> u64
     rank_at(tuple.relation, tuple.values.get(0))
 }
 
-/// The rank of the tuples of a relation with this first value, where they have one.
+/// The rank of the tuples of a relation with this first value, or without any value.
 pub fn rank_at(relation: u16, value: Option<&Value>) -> u64
     ensures rank { result ≡
         rank_at_def relation (option_map datum_of (option_copied value.entry)) }
@@ -30,7 +30,7 @@ pub fn rank_at(relation: u16, value: Option<&Value>) -> u64
     u64::from(relation) * VALUE_SPAN + value_rank(value)
 }
 
-/// The rank of a value, where there is one.
+/// The rank of a value; 0 if there is none.
 pub fn value_rank(value: Option<&Value>) -> u64
     ensures rank { result ≡ value_rank_def (option_map datum_of (option_copied value.entry)) }
     ensures small { result < 281474976710656 }
@@ -69,7 +69,7 @@ fn word_rank(bytes: &[u8]) -> u64
     (((first * 256 + second) * 256 + third) * 256 + fourth) * 256 + fifth
 }
 
-// The first byte, or 0 where there is none, and what is compared behind it.
+// The first byte, or 0 if there is none, and the bytes that are compared after it.
 fn next_byte(bytes: &[u8]) -> (u64, &[u8])
     ensures byte { result.0 ≡ first_byte bytes.now }
     ensures small { result.0 ≤ 255 }

@@ -1,9 +1,9 @@
-//! What is read of versions by an update: what is left of the base, and what stands in the table.
-ghost use Rattle.std.specs.Prelude.{◌≡◌, [], None, Some, find, IfNone, IfSome, IsTrue};
+//! The reads of an update: each merges the rest of the base with the tuples of the table that the update sees.
+ghost use Rattle.std.specs.Prelude.{◌≡◌, [], None, Some, map, find, IfNone, IfSome, IsTrue};
 ghost use Rattle.std.specs.Option.{option_map, option_copied};
 ghost use Rattle.def_chase.specs.Cursors.{is_beyond, first_of, next_of, scan_of};
 ghost use Rattle.def_chase.specs.Repository.{has, IsRepository};
-ghost use Rattle.base_types.specs.Candidates.{column_of, further_candidates, is_holding, AreFirst, AreFurther, Begin};
+ghost use Rattle.base_types.specs.Candidates.{column_of, further_candidates, is_holding, AreAllInColumn, AreFirst, AreFurther, Begin};
 ghost use Rattle.base_types.specs.Meanings.{fact_of, datum_of};
 ghost use Rattle.set_facts.specs.Runs.{ahead_of, left_of, merged, run_of};
 ghost use Rattle.set_versions.specs.Marked.{put_first};
@@ -13,16 +13,16 @@ use crate::sweeps::Sweep;
 use crate::taken::Taken;
 use crate::versions::Versions;
 use base_tree::Few;
-use base_types::{Candidates, Column, Facts, Opening, Tuple, Value};
+use base_types::{Candidates, Column, Facts, Opening, OuterName, Tuple, Value};
 use set_facts::{Course, Merging, Run, least, remaining};
 use std::collections::btree_set::Range;
 
-// So many tuples of the base are gathered with those of the table at less cost than a range is found.
+// To gather up to this number of tuples of the base together with the table's costs less than to find a range.
 const FEW: usize = 3;
 
-// Each call also tells that what the update sees is in order. None takes memory.
+// Most calls also promise that the tuples that the update sees are in order. None can fail.
 impl Versions {
-    // What is always true of them: what the update sees is in order. It does nothing but say so.
+    // A law: the tuples that the update sees are in order. The call does nothing else.
     pub(crate) fn is_in_order(&self, number: u32)
         ensures in_order { IsRepository (seen number self.now) }
     {
@@ -40,7 +40,7 @@ impl Versions {
         self.table().contains(number, tuple)
     }
 
-    // The least tuple of any relation that it sees above the given one, or of all where none is given.
+    // The least tuple of any relation that the update sees above the given one, or of all if none is given.
     pub(crate) fn beyond(&self, number: u32, past: Option<&Tuple>) -> Option<&Tuple>
         ensures found { option_map fact_of (option_copied result)
             ≡ find (is_beyond (option_map fact_of (option_copied past.entry)))
@@ -53,27 +53,26 @@ impl Versions {
         least(left, self.table().beyond(number, past))
     }
 
-    // The least tuple that it sees that holds a null which the update drew at the place, above `past` where that is given.
+    // The least tuple above `past`, if that is given, that update `number` sees and that holds a null of the name.
     pub(crate) fn holding(
         &self,
         number: u32,
-        update: u32,
-        place: u32,
+        name: OuterName,
         past: Option<&Tuple>,
     ) -> Option<&Tuple>
         ensures found { option_map fact_of (option_copied result)
-            ≡ find (is_holding update place (option_map fact_of (option_copied past.entry)))
-            (seen number self.now) }
+            ≡ find (is_holding name.update name.place
+            (option_map fact_of (option_copied past.entry))) (seen number self.now) }
         ensures in_order { IsRepository (seen number self.now) }
     {
         let base = self.base();
-        let below = base.holding(update, place, past);
-        let course = Course::Holding(update, place);
+        let below = base.holding(name, past);
+        let course = Course::Holding(name);
         let left = remaining(base, self.taken(), &course, below);
-        least(left, self.table().holding(number, update, place, past))
+        least(left, self.table().holding(number, name, past))
     }
 
-    // The least tuple of the relation that it sees.
+    // The least tuple of the relation that the update sees.
     pub(crate) fn first(&self, number: u32, relation: u16) -> Option<&Tuple>
         ensures found { option_map fact_of (option_copied result)
             ≡ first_of (seen number self.now) relation }
@@ -85,7 +84,7 @@ impl Versions {
         least(left, self.table().first(number, relation))
     }
 
-    // The least tuple of the same relation that it sees above the given one.
+    // The least tuple above the given one in its relation that the update sees.
     pub(crate) fn after(&self, number: u32, tuple: &Tuple) -> Option<&Tuple>
         ensures found { option_map fact_of (option_copied result)
             ≡ next_of (seen number self.now) (fact_of tuple.now) }
@@ -97,7 +96,7 @@ impl Versions {
         least(left, self.table().after(number, tuple))
     }
 
-    // The least tuple of the relation that it sees with the value in the column, above `past` where that is given.
+    // The least tuple of the relation that the update sees with the value in the column, above `past`, if that is given.
     pub(crate) fn scan(
         &self,
         number: u32,
@@ -121,9 +120,21 @@ impl Versions {
         )
     }
 
-    // What it sees of the relation, with the column's value where a column is given, and above `past` where that is given, as far as
-    // it is at hand: what the base has, where nothing of it is taken or written, and else what it has before the first that is, or
-    // a few of both.
+    // The values that the tuples of the relation that the update sees have in the column, if they are at hand: the base's, if the
+    // update sees no tuple of the relation in the table. Other values may be among them.
+    pub(crate) fn values(&self, number: u32, relation: u16, column: u16) -> Option<&[Value]>
+        ensures all { IfSome result (λ values.
+            AreAllInColumn (map datum_of values.now) (seen number self.now) relation column) }
+    {
+        if self.table().first(number, relation).is_some() {
+            return None;
+        }
+        self.base().values(relation, column)
+    }
+
+    // The tuples of the relation that the update sees, with the column's value and above `past`, if these are given, as far as
+    // they are at hand. These are the base's, if none is taken or written, otherwise the base's before the first such tuple, or a
+    // few of both.
     pub(crate) fn candidates(
         &self,
         number: u32,
@@ -142,7 +153,8 @@ impl Versions {
         self.at_hand(number, relation, column, past)
     }
 
-    // The same above a tuple, where no column is given: what comes first of it, where that is more than a few.
+    // The candidates above a tuple, with no column given: an opening, if that has more than a few tuples, otherwise as `at_hand`
+    // finds them.
     fn onwards(&self, number: u32, relation: u16, past: &Tuple) -> Candidates<'_>
         ensures all { AreFurther result (seen number self.now) relation None (Some past.now) }
     {
@@ -155,8 +167,8 @@ impl Versions {
         self.at_hand(number, relation, None, Some(past))
     }
 
-    // The same, of what the base has and what is written together. Never inlined, so that a call that has an opening clears no room for
-    // all the others.
+    // The candidates, merged from the base and the written tuples. Never inlined, so that a call that returns an opening need not
+    // clear room for the other kinds.
     #[inline(never)]
     fn at_hand(
         &self,
@@ -185,7 +197,7 @@ impl Versions {
         }
     }
 
-    // A few of them, where the base has none.
+    // The first few candidates, if the base has none.
     fn written(
         &self,
         number: u32,
@@ -202,8 +214,8 @@ impl Versions {
         Candidates::Few(self.table().candidates(number, relation, column, past))
     }
 
-    // What it sees of the tuple's relation above it, up to the first tuple there that was written or taken; None where the base
-    // has but a few before that one.
+    // The tuples above `past` in its relation that the update sees, up to the first one that was written or taken; None if the
+    // base has only a few before that one.
     fn up_to_written(&self, number: u32, past: &Tuple) -> Option<Opening<'_>>
         ensures first { IfSome result (λ opening. Begin opening
             (further_candidates (seen number self.now) past.now.relation None
@@ -219,7 +231,7 @@ impl Versions {
         Some(Opening::new(range, put))
     }
 
-    // Whether it is plain that the base has none of them.
+    // A quick test: true only if the base has no such candidate.
     fn base_lacks(&self, relation: u16, column: Option<Column<'_>>, past: Option<&Tuple>) -> bool
         ensures none { IsTrue result → further_candidates self.now.base relation
             (option_map column_of column.entry) (option_map fact_of (option_copied past.entry)) ≡
@@ -235,7 +247,7 @@ impl Versions {
         }
     }
 
-    // The same, where the base has this run of them.
+    // The candidates, if the run `base` has the base's.
     fn with_written<'a>(
         &'a self,
         number: u32,
@@ -268,7 +280,8 @@ impl Versions {
     }
 }
 
-// The first of those of the run that are not taken, and of what is written: that begins with `put`, and goes on with `written`.
+// The first tuples of two merged runs: the tuples of `base` that are not taken, and the written tuples, which are `put` and then
+// `written`.
 fn few_of_both<'a>(
     base: Run<'a>,
     taken: &'a Taken,
@@ -283,7 +296,7 @@ fn few_of_both<'a>(
     both.few()
 }
 
-// The tuple that was put, if there is one and the one that is gone does not come before it.
+// The tuple `put`, if it is there and `gone` does not come before it.
 fn no_later<'a>(put: Option<&'a Tuple>, gone: Option<&Tuple>) -> Option<&'a Tuple>
     ensures first { option_map fact_of (option_copied result) ≡
         put_first (option_map fact_of (option_copied put.entry))
@@ -302,7 +315,7 @@ fn no_later<'a>(put: Option<&'a Tuple>, gone: Option<&Tuple>) -> Option<&'a Tupl
     }
 }
 
-// Whether the range has more than a few tuples. It is not known where memory is wanted.
+// Whether the range has more than a few tuples. If memory runs out, the answer is no.
 fn has_some(range: &Range<'_, Tuple>) -> bool {
     match range.clone() {
         Ok(mut tuples) => tuples.nth(FEW).is_some(),

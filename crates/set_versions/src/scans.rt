@@ -1,4 +1,4 @@
-//! What is looked for among the cells of the marked tuples.
+//! Searches among the cells of the marked tuples.
 ghost use Rattle.std.specs.Prelude.{◌≡◌};
 ghost use Rattle.std.specs.Option.{option_map, option_copied};
 ghost use Rattle.base_types.specs.Meanings.{fact_of, datum_of};
@@ -14,8 +14,8 @@ use base_tree::{Search, Show};
 use base_types::{Tuple, Value};
 use std::cmp::Ordering;
 
-/// The cells with the value in the column, whose tuple is of the relation, comes after a tuple, where one is given, and
-/// is there for the update.
+/// A search for the cells with the value in the column whose tuple is of the relation, comes after `past`, if that is given, and
+/// is seen by the update.
 #[derive(Drop)]
 pub struct Scan<'c> {
     pub number: u32,

@@ -1,4 +1,4 @@
-//! What is looked for among the marked tuples.
+//! Searches among the marked tuples.
 ghost use Rattle.std.specs.Prelude.{◌≡◌, ◌&&◌, None, Some, true};
 ghost use Rattle.std.specs.Option.{option_map, option_copied};
 ghost use Rattle.def_chase.specs.Cursors.{has_at as has_datum_at};
@@ -16,7 +16,7 @@ use base_types::{Tuple, Value};
 use std::cmp::Ordering;
 use std::marker::Model;
 
-/// The tuple itself, whether or not it is there for an update. Contracts see the tuple.
+/// A search for one tuple, whether or not an update sees it. Contracts see the tuple.
 #[derive(Drop)]
 pub struct Held<'c> {
     rank: u64,
@@ -60,7 +60,7 @@ impl<'c> Sought<Handle> for Held<'c> {
     }
 }
 
-/// What comes after a tuple, where one is given, and is there for the update.
+/// A search for tuples that come after `past`, if that is given, and that the update sees.
 #[derive(Drop)]
 pub struct Beyond<'c> {
     pub number: u32,
@@ -87,7 +87,7 @@ impl<'c> Search<Handle, Marks> for Beyond<'c> {
     }
 }
 
-/// What is of the relation, comes after a tuple, where one is given, and is there for the update.
+/// A search for tuples of the relation that come after `past`, if that is given, and that the update sees.
 #[derive(Drop)]
 pub struct Zone<'c> {
     pub number: u32,
@@ -126,7 +126,7 @@ impl<'c> Show<Handle, Marks, Tuple> for Zone<'c> {
     }
 }
 
-/// What is of the relation, and comes after a tuple, where one is given.
+/// A search for tuples of the relation that come after `past`, if that is given.
 #[derive(Drop)]
 pub struct Onward<'c> {
     pub relation: u16,
@@ -154,7 +154,7 @@ impl<'c> Search<Handle, ()> for Onward<'c> {
     }
 }
 
-/// What is of the relation, and was written by the update.
+/// A search for tuples of the relation that the update wrote.
 #[derive(Drop)]
 pub struct Written {
     pub number: u32,
@@ -179,8 +179,8 @@ impl Search<Handle, Marks> for Written {
     }
 }
 
-/// What is of the relation, has the value in its first column, comes after a tuple, where one is given, and is there for the
-/// update. Contracts see that as a `Leading`.
+/// A search for tuples of the relation that have the value in the first column, come after `past`, if that is given, and that the
+/// update sees. Contracts see it as a `Leading`.
 #[derive(Drop)]
 pub struct Lead<'c> {
     rank: u64,
@@ -261,8 +261,8 @@ impl<'c> Show<Handle, Marks, Tuple> for Lead<'c> {
     }
 }
 
-/// What is of the relation, has the value in the column, comes after a tuple, where one is given, and is there for the update:
-/// asked of each tuple of the relation.
+/// A search for tuples of the relation that have the value in the column, come after `past`, if that is given, and that the
+/// update sees. It looks at each tuple of the relation.
 #[derive(Drop)]
 pub struct Further<'c> {
     pub number: u32,
@@ -304,7 +304,8 @@ impl<'c> Show<Handle, Marks, Tuple> for Further<'c> {
     }
 }
 
-// Where the tuple lies to those of the relation with the first value that come after `past`, where that is given.
+// Whether the tuple comes before, among or after the tuples of the relation that have the first value and come after `past`, if
+// that is given.
 fn place_at(relation: u16, value: &Value, past: Option<&Tuple>, tuple: &Tuple) -> Ordering
     ensures { result ≡ place_lead relation (datum_of value.now)
         (option_map fact_of (option_copied past.entry)) (fact_of tuple.now) }
@@ -320,7 +321,7 @@ fn place_at(relation: u16, value: &Value, past: Option<&Tuple>, tuple: &Tuple) -
     }
 }
 
-// Where the tuple lies to what comes after `past`, where that is given.
+// Whether the tuple comes before or among the tuples that come after `past`, if that is given.
 pub(crate) fn place_after(past: Option<&Tuple>, tuple: &Tuple) -> Ordering
     ensures { result
         ≡ place_beyond (option_map fact_of (option_copied past.entry)) (fact_of tuple.now) }
@@ -336,7 +337,7 @@ pub(crate) fn place_after(past: Option<&Tuple>, tuple: &Tuple) -> Ordering
     }
 }
 
-/// Where the tuple lies to those of the relation that come after `past`, if one is given.
+/// Whether the tuple comes before, among or after the tuples of the relation that come after `past`, if that is given.
 pub fn place_in_relation(relation: u16, past: Option<&Tuple>, tuple: &Tuple) -> Ordering
     ensures { result
         ≡ place_of relation (option_map fact_of (option_copied past.entry)) (fact_of tuple.now) }

@@ -6,7 +6,7 @@ ghost use Rattle.set_versions.specs.Spots.{digest as digest_def, digest_from, sp
 
 use base_types::Value;
 
-/// The spot of a relation, a column, and the value there, where there is one.
+/// The spot of a relation, a column, and the value there, if there is one.
 pub fn spot(relation: u16, column: usize, value: Option<&Value>) -> u32
     ensures spot { result ≡
         spot_def relation column (option_map datum_of (option_copied value.entry)) }
@@ -18,7 +18,7 @@ pub fn spot(relation: u16, column: usize, value: Option<&Value>) -> u32
     ((digest(value) % 251 + place) % 256) as u32
 }
 
-// A number by which the value is told from most others.
+// A number that differs for most different values.
 fn digest(value: &Value) -> u64
     ensures digest { result ≡ digest_def (datum_of value.now) }
 {
@@ -29,7 +29,7 @@ fn digest(value: &Value) -> u64
     }
 }
 
-// The same of a word's bytes.
+// A number that differs for the bytes of most different words.
 fn digest_word(bytes: &[u8]) -> u64
     ensures digest { result ≡ digest_from 0 bytes.now }
 {

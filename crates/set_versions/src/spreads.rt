@@ -34,21 +34,21 @@ pub trait Spread: Share {
     ghost use Rattle.set_versions.specs.declared.cells.Cell.{Cell};
     ghost use Rattle.set_versions.specs.declared.marks.Marks.{Marks};
 
-    // What is on the shelf of each spot.
+    // The cells with their marks on the shelf of each spot.
     ghost shelves: { Self → ℕ → List (Cell × Marks) };
 
-    // Whether two spots have one shelf.
+    // Whether two spots share one shelf.
     ghost same: { ℕ → ℕ → Bool };
 
     /// No marks at all.
     fn none() -> Self
         ensures none { (j : ℕ) → shelves result j ≡ [] };
 
-    /// The shelf of the spot, where there is one.
+    /// The shelf of the spot, if there is one.
     fn shelf(&self, spot: u32) -> Option<&Shelf>
         ensures shelf { cells_on (option_copied result) ≡ shelves self.now spot };
 
-    /// Puts these marks on the shelf of the spot at the cell, or takes the cell out where they say that the tuple is nowhere.
+    /// Puts the marks at the cell on the shelf of the spot, or takes the cell out if the marks say that the tuple is nowhere.
     fn set(&mut self, alloc: Global, spot: u32, cell: Cell, marks: Marks) -> Result<(), Memory>
         ensures ok { OnOk result ((j : ℕ) → shelves self.new j ≡ cond (same j spot)
             (set_entry (on cell_of cell_cmp) (shelves self.old j) cell marks) (shelves self.old j)) };
@@ -81,7 +81,7 @@ impl Spread for Shelf {
     }
 }
 
-/// Marks by cell: those of even spots, and those of odd ones, each by the half of the spot.
+/// Marks by cell in two parts: for even spots and for odd ones, each by the half of the spot.
 #[derive(Drop)]
 pub struct Halves<T> {
     even: T,
@@ -130,14 +130,14 @@ impl<T: Spread> Spread for Halves<T> {
     }
 }
 
-/// Marks by cell in four parts, of which another handle costs nothing: the parts are copied once they are changed while
-/// another handle shares them. Where there are none they take no memory.
+/// Marks by cell in four parts, copied on write: another handle costs nothing, and a change copies the parts only if another
+/// handle shares them. Without marks it allocates nothing.
 #[derive(Drop)]
 pub struct Quarters<T> {
     room: Option<Arc<Room<T>>>,
 }
 
-// What is shared.
+// The parts that handles share.
 #[derive(Drop)]
 pub(crate) struct Room<T> {
     parts: Halves<Halves<T>>,
@@ -261,5 +261,5 @@ impl Spread for Shelves {
     }
 }
 
-/// Sixteen times sixteen shelves.
+/// 16 times 16 shelves.
 pub type Spots = Quarters<Quarters<Shelves>>;

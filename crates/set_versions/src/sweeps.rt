@@ -1,4 +1,4 @@
-//! What an update sees, tuple by tuple: what is left of the base and what stands in the table, as one.
+//! The tuples that an update sees, one by one: the rest of the base merged with the tuples of the table.
 ghost use Rattle.std.specs.Prelude.{◌≡◌, ◌++◌, [], IfNone};
 ghost use Rattle.std.specs.Option.{option_copied, option_map, option_to_list};
 ghost use Rattle.base_types.specs.Meanings.{fact_of};
@@ -17,14 +17,14 @@ use set_facts::Run;
 use std::cmp::Ordering;
 use std::marker::Model;
 
-/// The tuples that an update sees, in order. Contracts see those that are to come.
+/// The tuples that an update sees, in order. Contracts see the tuples that are still to come.
 #[derive(Drop)]
 pub struct Sweep<'a> {
     base: Run<'a>,
     taken: Passing<'a>,
     rows: Cursor<'a, Handle, Marks>,
     number: u32,
-    // The first of the base and the first of the table that is to come.
+    // The next tuple of the base and the next of the table, read ahead.
     left: Option<&'a Tuple>,
     put: Option<&'a Handle>,
 }
@@ -49,7 +49,7 @@ impl<'a> Model for Sweep<'a> {
 }
 
 impl<'a> Sweep<'a> {
-    /// What is left of the base, and what stands in the rows for the update, as one.
+    /// The tuples of the base that are not taken, merged with the tuples of the rows that the update sees.
     pub(crate) fn of(
         base: Run<'a>,
         taken: Passing<'a>,
@@ -74,7 +74,7 @@ impl<'a> Sweep<'a> {
         }
     }
 
-    /// The next tuple; None exactly where there is none to come.
+    /// The next tuple; None exactly if there is none left.
     pub fn next(&mut self) -> Option<&'a Tuple>
         ensures step { self.old ≡
             option_to_list (option_map fact_of (option_copied result)) ++ self.new }
@@ -136,7 +136,7 @@ fn next_left<'a>(base: &mut Run<'a>, taken: &mut Passing<'a>) -> Option<&'a Tupl
     None
 }
 
-// The next tuple of the rows that stands for the update.
+// The next tuple of the rows that the update sees.
 fn next_standing<'a>(rows: &mut Cursor<'a, Handle, Marks>, number: u32) -> Option<&'a Handle>
     ensures step { visible number rows.old ≡
         option_to_list (option_map fact_of (option_copied result)) ++ visible number rows.new }

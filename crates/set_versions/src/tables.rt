@@ -1,4 +1,4 @@
-//! Tuples with their marks, and the same by each column.
+//! Tuples with their marks, and an index of them by column.
 ghost use Rattle.std.specs.Prelude.{◌≡◌, [], length, map, IfOk, OnOk, OnErr};
 ghost use Rattle.base_types.specs.Meanings.{fact_of};
 ghost use Rattle.base_tree.specs.Orders.{IsOrdered};
@@ -16,15 +16,14 @@ use crate::searches::{Beyond, Further, Held, Lead, Written, Zone};
 use crate::spots::spot;
 use crate::spreads::{Spots, Spread};
 use base_tree::{Cursor, Few, Share, Start, TreeMap};
-use base_types::{Column, Tuple, Value};
+use base_types::{Column, OuterName, Tuple, Value};
 use def_memory::Memory;
 use std::alloc::{AllocError, Global};
 use std::marker::Model;
 use std::mem;
 
 /// Tuples with their marks, in order, and an index of them by cells. Contracts see the tuples with their marks. The index is
-/// changed in place, and let go where memory is wanted in the midst of that; without it the tuples of a relation are gone
-/// through.
+/// changed in place, and dropped if memory runs out during a change. Without it a search goes through all tuples of a relation.
 #[derive(Drop)]
 pub struct Table {
     rows: TreeMap<Handle, Marks>,
@@ -60,7 +59,7 @@ impl Table {
         }
     }
 
-    /// How many tuples it has.
+    /// The number of tuples.
     pub fn len(&self) -> usize
         ensures length { result ≡ length self.now }
     {
@@ -78,7 +77,7 @@ impl Table {
         })
     }
 
-    /// The same table with the index, which this one then has no more, so that it may be changed in place.
+    /// Another handle to the table. It takes the index away from this one, so that the index can be changed in place.
     pub fn lend(&mut self) -> Result<Table, AllocError>
         ensures same { IfOk result (λ lent. lent ≡ self.old) }
         ensures kept { self.new ≡ self.old }
@@ -89,7 +88,7 @@ impl Table {
         })
     }
 
-    /// A handle of the tuple, with what the table tells of it.
+    /// A handle to the tuple, with its marks in the table.
     pub fn entry(&self, tuple: &Tuple) -> Result<(Handle, Marks), Memory>
         ensures tuple { IfOk result (λ e. fact_of e.0 ≡ fact_of tuple.now) }
         ensures marks { IfOk result (λ e. e.1 ≡ marks_at self.now (fact_of tuple.now)) }
@@ -105,8 +104,8 @@ impl Table {
         }
     }
 
-    /// Puts these marks of the tuple in, in place where no other handle shares what is changed. If it is refused, the table is as
-    /// it was, without its index.
+    /// Sets the marks of the tuple, in place if no other handle shares the changed part. If it is refused, the table is unchanged
+    /// but has lost its index.
     pub fn put(&mut self, alloc: Global, key: Handle, marks: Marks) -> Result<(), Memory>
         requires in_order { AreMarks marks }
         ensures marks { OnOk result ((t : Fact) → marks_at self.new t ≡
@@ -163,7 +162,7 @@ impl Table {
         }
     }
 
-    /// The least tuple of any relation that it sees above the given one, or of all where none is given.
+    /// The least tuple of any relation that the update sees above the given one, or of all if none is given.
     pub fn beyond(&self, number: u32, past: Option<&Tuple>) -> Option<&Tuple>
         ensures found { option_map fact_of (option_copied result)
             ≡ find (is_beyond (option_map fact_of (option_copied past.entry)))
@@ -173,30 +172,17 @@ impl Table {
         tuple_in(self.rows.find_in(&Beyond { number, past }))
     }
 
-    /// The least tuple that it sees that holds a null which the update drew at the place, above `past` where that is given.
-    pub fn holding(
-        &self,
-        number: u32,
-        update: u32,
-        place: u32,
-        past: Option<&Tuple>,
-    ) -> Option<&Tuple>
+    /// The least tuple above `past`, if that is given, that update `number` sees and that holds a null of the name.
+    pub fn holding(&self, number: u32, name: OuterName, past: Option<&Tuple>) -> Option<&Tuple>
         ensures found { option_map fact_of (option_copied result)
-            ≡ find (is_holding update place (option_map fact_of (option_copied past.entry)))
-            (visible number self.now) }
+            ≡ find (is_holding name.update name.place
+            (option_map fact_of (option_copied past.entry))) (visible number self.now) }
         ensures in_order { IsRepository (visible number self.now) }
     {
-        tuple_in(
-            self.rows.find_in(&WithNull {
-                number,
-                drawer: update,
-                at: place,
-                past,
-            }),
-        )
+        tuple_in(self.rows.find_in(&WithNull { number, name, past }))
     }
 
-    /// The least tuple of the relation that it sees.
+    /// The least tuple of the relation that the update sees.
     pub fn first(&self, number: u32, relation: u16) -> Option<&Tuple>
         ensures found { option_map fact_of (option_copied result)
             ≡ first_of (visible number self.now) relation }
@@ -211,7 +197,7 @@ impl Table {
         )
     }
 
-    /// The least tuple of the same relation that it sees above the given one.
+    /// The least tuple above the given one in its relation that the update sees.
     pub fn after(&self, number: u32, tuple: &Tuple) -> Option<&Tuple>
         ensures found { option_map fact_of (option_copied result)
             ≡ next_of (visible number self.now) (fact_of tuple.now) }
@@ -226,7 +212,7 @@ impl Table {
         )
     }
 
-    /// The least tuple of the relation that it sees with the value in the column, above `past` where that is given.
+    /// The least tuple of the relation that the update sees with the value in the column, above `past`, if that is given.
     pub fn scan(
         &self,
         number: u32,
@@ -280,8 +266,8 @@ impl Table {
     ghost use Rattle.def_chase.specs.Repository.{IsRepository};
     ghost use Rattle.set_versions.specs.Marked.{visible};
 
-    /// The first tuples of the relation that it sees, with the column's value where a column is given, and above `past` where
-    /// that is given: all of them, or as many as there is room for.
+    /// The first tuples of the relation that the update sees, with the column's value and above `past`, if these are given: all
+    /// of them, or as many as the result has room for.
     pub fn candidates(
         &self,
         number: u32,
@@ -308,7 +294,7 @@ impl Table {
         self.few_at(number, relation, column, past)
     }
 
-    // Those of them with the value in the column, which is not the first.
+    // The first candidates with the value in a column after the first.
     #[inline(never)]
     fn few_at(
         &self,

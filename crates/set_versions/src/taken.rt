@@ -1,4 +1,4 @@
-//! The tuples of the base of which the table tells in the base's place.
+//! The taken tuples: tuples of the base whose marks the table holds in place of the base.
 ghost use Rattle.std.specs.Prelude.{◌≡◌, [], None, map, cond, IfOk, IsTrue, OnOk};
 ghost use Rattle.def_chase.specs.Cursors.{next_of};
 ghost use Rattle.def_chase.specs.Repository.{has, IsRepository};
@@ -44,7 +44,7 @@ impl Taken {
         }
     }
 
-    /// Another handle to the same.
+    /// Another handle to the same tuples.
     pub fn share(&self) -> Result<Taken, AllocError>
         ensures same { IfOk result (λ copy. copy ≡ self.now) }
     {
@@ -63,7 +63,7 @@ impl Taken {
         }
     }
 
-    /// Whether none of them is of the relation and above `past`, where that is given.
+    /// Whether none of them is of the relation and above `past`, if that is given.
     pub fn has_none(&self, relation: u16, past: Option<&Tuple>) -> bool
         ensures none { IsTrue result → further_candidates self.now relation None
             (option_map fact_of (option_copied past.entry)) ≡ [] }
@@ -72,7 +72,7 @@ impl Taken {
         found.is_none()
     }
 
-    /// The least of them that is of the tuple's relation and above it; None exactly where there is none.
+    /// The least of them that is of the tuple's relation and above it; None exactly if there is none.
     pub fn after(&self, tuple: &Tuple) -> Option<&Tuple>
         ensures found { option_map fact_of (option_copied result)
             ≡ next_of self.now (fact_of tuple.now) }
@@ -96,7 +96,7 @@ impl Taken {
         Passing::of(self.tuples.cursor(&Start))
     }
 
-    /// The same with the tuple, or without it.
+    /// These tuples with the given one, or without it.
     pub fn set(self, alloc: Global, tuple: &Handle, taken: bool) -> Result<Taken, Memory>
         ensures set { IfOk result (λ new. (t : Fact)
             → has new t ≡ cond (same_fact t (fact_of tuple.now)) taken (has self t)) }

@@ -22,9 +22,8 @@ use std::alloc::Global;
 use std::marker::Model;
 use std::sync::Arc;
 
-/// A base, and the writes of updates by number. The base is never changed and never copied: a table tells of the tuples that
-/// updates wrote, in place of the base where that has them. What contracts see of them is a `Kept`, and what they stand for
-/// is said by `StandFor`.
+/// A base, and the writes of updates by number. The base is never changed and never copied. A table has the marks of the tuples
+/// that updates wrote, and replaces the base for these. Contracts see a `Kept`; `StandFor` says what it means.
 #[derive(Drop)]
 pub struct Versions {
     base: Arc<IndexedFacts>,
@@ -51,7 +50,7 @@ impl Versions {
     pub fn of(alloc: Global, base: IndexedFacts) -> Result<Versions, Memory>
         ensures base { IfOk result (λ versions. StandFor versions base no_trails) }
     {
-        // The set tells that it is in order.
+        // The set promises that it is in order.
         base.is_in_order();
         match Arc::new(alloc, base) {
             Ok(base) => Ok(Versions {
@@ -74,8 +73,8 @@ impl Versions {
         })
     }
 
-    // The same versions with the index of the table, which these then have no more: it is changed in place with the versions
-    // that take the place of these.
+    // Another handle to the versions. It takes the index of the table away from this one, so that the versions that replace these
+    // can change it in place.
     fn lend(&mut self) -> Result<Versions, Memory>
         ensures same { IfOk result (λ versions. versions ≡ self.old) }
         ensures kept { self.new ≡ self.old }
@@ -86,21 +85,21 @@ impl Versions {
         Ok(Versions { base, taken, table })
     }
 
-    /// How many tuples the base has.
+    /// The number of tuples in the base.
     pub fn base_len(&self) -> usize
         ensures length { result ≡ length self.now.base }
     {
         self.base.len()
     }
 
-    /// How many tuples updates have written.
+    /// The number of tuples that have a row in the table.
     pub fn rows_len(&self) -> usize
         ensures length { result ≡ length self.now.rows }
     {
         self.table.len()
     }
 
-    /// Adds writes behind those of the update. If it is refused, nothing is changed.
+    /// Adds writes after those of the update. If it is refused, nothing changes.
     pub fn publish(&mut self, alloc: Global, number: u32, writes: &[Write]) -> Result<(), Memory>
         ensures ok { OnOk result (Published number (map change_of writes.now) self.old self.new) }
         ensures err { OnErr result (self.new ≡ self.old) }
@@ -117,7 +116,7 @@ impl Versions {
         Ok(())
     }
 
-    /// Takes the writes of the update back, all of them, which are handed in. If it is refused, nothing is changed.
+    /// Takes back all writes of the update, which must be `writes`. If it is refused, nothing changes.
     pub fn retract(&mut self, alloc: Global, number: u32, writes: &[Write]) -> Result<(), Memory>
         ensures ok { OnOk result (Retracted number (map change_of writes.now) self.old self.new) }
         ensures err { OnErr result (self.new ≡ self.old) }
@@ -127,8 +126,8 @@ impl Versions {
         Ok(())
     }
 
-    /// Puts the writes of the update into the base, all of them, which are handed in; it then has none. Where the lower updates
-    /// have no writes, what the higher ones see is as before. If it is refused, nothing is changed.
+    /// Moves all writes of the update, which must be `writes`, into the base; the update then has none. If the lower updates have
+    /// no writes, the higher ones see the same as before. If it is refused, nothing changes.
     pub fn fold(&mut self, alloc: Global, number: u32, writes: &[Write]) -> Result<(), Memory>
         ensures ok { OnOk result (Folded number (map change_of writes.now) self.old self.new) }
         ensures err { OnErr result (self.new ≡ self.old) }
@@ -138,14 +137,14 @@ impl Versions {
         Ok(())
     }
 
-    /// Whether the update wrote a tuple of the relation. It looks through the tuples of the relation.
+    /// Whether the update wrote a tuple of the relation. It goes through the written tuples of the relation.
     pub fn wrote(&self, number: u32, relation: u16) -> bool
         ensures answer { Wrote number relation result self.now }
     {
         self.table.is_marked(number, relation)
     }
 
-    /// What the update sees.
+    /// The view that the update has of the versions.
     pub fn below(&self, number: u32) -> Below<'_>
         ensures versions { result.versions.now ≡ self.now }
         ensures number { result.number ≡ number }
@@ -164,7 +163,7 @@ impl Versions {
         &self.base
     }
 
-    // The tuples of the base of which the table tells in its place.
+    // The tuples of the base whose marks the table holds in its place.
     pub(crate) fn taken(&self) -> &Taken
         ensures taken { result.now ≡ self.now.taken }
         ensures kept { AreKept self.now }
@@ -179,7 +178,7 @@ impl Versions {
         &self.table
     }
 
-    // Whether the base has the tuple and tells of it.
+    // Whether the base has the tuple and it is not taken.
     pub(crate) fn has_left(&self, tuple: &Tuple) -> bool
         ensures left { result ≡ is_left self.now (fact_of tuple.now) }
         ensures kept { AreKept self.now }
@@ -187,7 +186,7 @@ impl Versions {
         self.base.contains(tuple) && !self.taken.contains(tuple)
     }
 
-    // What is known of the tuple, with a handle of it.
+    // The marks of the tuple, with a handle to it.
     fn known(&self, in_base: bool, tuple: &Tuple) -> Result<(Handle, Marks), Memory>
         requires in_base { in_base ≡ has self.now.base (fact_of tuple.now) }
         ensures tuple { IfOk result (λ e. fact_of e.0 ≡ fact_of tuple.now) }
@@ -200,7 +199,7 @@ impl Versions {
         self.table.entry(tuple)
     }
 
-    // Makes these marks known of the tuple. For want of memory nothing is changed.
+    // Sets the marks of the tuple. If it is refused, nothing changes.
     fn put(&mut self, alloc: Global, in_base: bool, key: Handle, marks: Marks) -> Result<(), Memory>
         requires in_base { in_base ≡ has self.old.base (fact_of key) }
         requires in_order { AreMarks marks }
@@ -216,7 +215,7 @@ impl Versions {
         Ok(())
     }
 
-    // Touches what is known of the tuple. For want of memory nothing is changed.
+    // Changes the marks of the tuple. If it is refused, nothing changes.
     fn touch(&mut self, alloc: Global, tuple: &Tuple, touch: Touch) -> Result<(), Memory>
         ensures known { OnOk result ((t : Fact)
             → known_at self.new t ≡ touched_at touch (fact_of tuple.now) t (known_at self.old t)) }
@@ -230,7 +229,7 @@ impl Versions {
         Ok(())
     }
 
-    // Adds this write of the update. For want of memory nothing is changed.
+    // Adds this write of the update. If it is refused, nothing changes.
     fn write(&mut self, alloc: Global, number: u32, write: &Write) -> Result<(), Memory>
         ensures known { OnOk result ((t : Fact) → known_at self.new t ≡
             written_at number (change_of write.now) t (known_at self.old t)) }
@@ -244,8 +243,8 @@ impl Versions {
     }
 }
 
-// Whether the table is to tell of a tuple in the base's place, and what it then tells: nothing where its marks say no more than
-// that the base has it.
+// Whether the tuple must be taken, and the marks that the table then holds: none if the marks only say that the base has the
+// tuple.
 fn told_of(in_base: bool, marks: Marks) -> (bool, Marks)
     requires in_order { AreMarks marks }
     ensures takes { result.0 ≡ (in_base && not (in_base && is_based marks)) }
@@ -261,7 +260,7 @@ fn told_of(in_base: bool, marks: Marks) -> (bool, Marks)
     (true, marks)
 }
 
-// The write, where there is just one.
+// The write, if there is just one.
 fn alone(writes: &[Write]) -> Option<&Write>
     ensures alone { IfSome result (λ w. map change_of writes.now ≡ change_of w.now ∷ []) }
 {

@@ -11,7 +11,7 @@ use std::collections::BTreeSet;
 use std::collections::btree_set::Iter;
 
 impl PlainFacts {
-    /// The set of the tuples of a list, whatever their order and how often they stand there.
+    /// The set of the tuples of a list, in whatever order and however often each stands there.
     pub fn of_list(alloc: Global, tuples: &TupleList) -> Result<PlainFacts, Memory>
         ensures members { IfOk result
             (λ facts. (t : Fact) → has facts t ≡ has (map fact_of tuples.now.items) t) }
@@ -22,7 +22,7 @@ impl PlainFacts {
         PlainFacts::of_owned(alloc, tuples.copy(alloc)?)
     }
 
-    /// The set of the tuples of a list, which it takes over.
+    /// The set of the tuples of a list; it takes the list over.
     pub(crate) fn of_owned(alloc: Global, tuples: TupleList) -> Result<PlainFacts, Memory>
         ensures members { IfOk result
             (λ facts. (t : Fact) → has facts t ≡ has (map fact_of tuples.items) t) }

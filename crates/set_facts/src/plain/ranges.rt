@@ -15,7 +15,7 @@ use std::collections::btree_set::Range;
 use std::ops::Bound;
 
 impl PlainFacts {
-    /// All its tuples above the given one, or all where none is given, in order.
+    /// All its tuples above the given one, or all if none is given, in order.
     pub(crate) fn range(&self, past: Option<&Tuple>) -> Range<'_, Tuple>
         ensures tuples { map fact_of result ≡
             filter (is_beyond (option_map fact_of (option_copied past.entry))) self.now }
@@ -29,7 +29,7 @@ impl PlainFacts {
         }
     }
 
-    /// All its tuples above the given one, or all where none is given, at hand.
+    /// All its tuples above the given one, or all if none is given, at hand.
     pub(crate) fn at_hand(&self, past: Option<&Tuple>) -> Candidates<'_>
         ensures all { AreAll result self.now
             (filter (is_beyond (option_map fact_of (option_copied past.entry))) self.now) }
@@ -38,7 +38,7 @@ impl PlainFacts {
         Candidates::Together(self.range(past))
     }
 
-    /// Its tuples in order, but for some that are of a lesser relation, or not above `past` where that is given.
+    /// Its tuples in order, possibly without some that are of a lesser relation or, if `past` is given, not above it.
     pub(crate) fn ahead(&self, relation: u16, past: Option<&Tuple>) -> Range<'_, Tuple>
         ensures all { HasAllThat (is_ahead relation (option_map fact_of (option_copied past.entry)))
             self.now (map fact_of result) }
@@ -54,8 +54,8 @@ impl PlainFacts {
         }
     }
 
-    /// All its tuples of the relation that are above `past`, where that is given. They can stand apart: no tuple bounds those of
-    /// the last relation that there can be, and `past` may be of another relation.
+    /// All its tuples of the relation that are above `past`, if that is given. The answer can be `Apart`, since no tuple bounds
+    /// the last possible relation, and since `past` may be of another relation.
     pub(crate) fn relation(&self, relation: u16, past: Option<&Tuple>) -> Candidates<'_>
         ensures all { AreFurther result self.now relation None (option_copied past.entry) }
     {
@@ -73,7 +73,7 @@ impl PlainFacts {
         }
     }
 
-    // All its tuples of a relation, of which the next one is given.
+    // All its tuples of `relation`; `next` is the number after it.
     fn between(&self, relation: u16, next: u16) -> Range<'_, Tuple>
         requires next { next ≡ relation + 1 }
         ensures tuples { map fact_of result ≡ all_candidates self.now relation None }
@@ -85,7 +85,7 @@ impl PlainFacts {
             .range((Bound::Included(&first), Bound::Excluded(&end)))
     }
 
-    // All its tuples of the relation of a tuple that are above it, where the next relation is given.
+    // All its tuples above `tuple` in the same relation; `next` is the number after that relation's.
     fn after_it(&self, tuple: &Tuple, next: u16) -> Range<'_, Tuple>
         requires next { next ≡ tuple.now.relation + 1 }
         ensures tuples { map fact_of result ≡ filter (is_past (fact_of tuple.now)) self.now }
@@ -107,7 +107,7 @@ impl PlainFacts {
             .range((Bound::Excluded(past), Bound::Excluded(end)))
     }
 
-    /// Whether it is plain that it has no tuple of the relation: it begins behind it, or ends before it.
+    /// A quick test: true only if the set begins after the relation or ends before it, so that it has no tuple of the relation.
     pub(crate) fn lacks(&self, relation: u16) -> bool
         ensures none { IsTrue result → list_any (is_of relation) self.now ≡ false }
     {
@@ -117,7 +117,7 @@ impl PlainFacts {
         self.ends_before(relation)
     }
 
-    // Whether the set begins behind the relation: it is empty, or its first tuple is of a greater one.
+    // Whether the set begins after the relation: it is empty, or its first tuple is of a greater relation.
     fn begins_behind(&self, relation: u16) -> bool
         ensures none { IsTrue result → list_any (is_of relation) self.now ≡ false }
     {

@@ -1,6 +1,6 @@
 use Rattle.std.proofs.Common.{rules, ◌≡◌, ◌∙◌, subst}
-use Rattle.std.specs.HashMap.Entry.{map_with_value}
 use Rattle.std.specs.Prelude.{unwrap_or, OnOk, OnErr}
+use Rattle.indexmap.specs.Entry.{map_with_value}
 use Rattle.def_chase.specs.Values.{Datum}
 use Rattle.base_types.specs.Meanings.{fact_of, datum_of}
 use Rattle.set_facts.specs.Indexes.{Adds, group_in}

@@ -7,5 +7,5 @@ pub returns-then-empties-clause-dropped : goal.returns-then-empties-clause-dropp
 returns-then-empties-clause-dropped c =
     let t = fact_of c.args.tuple.now in
     let m = c.empties.new.groups in
-    drops_twice (datum_of c.args.value.now) t c.args.groups.now m c.remove.new.self c.empties.ensures.dropped
-    (vacant_drops m c.remove.new.self c.args.value.now t (c.remove.ensures.updates).0 (sym (c.empties.ensures.vacant.0 c.if-empties.true)))
+    drops_twice (datum_of c.args.value.now) t c.args.groups.now m c.swap_remove.new.self c.empties.ensures.dropped
+    (vacant_drops m c.swap_remove.new.self c.args.value.now t (c.swap_remove.ensures.updates).0 (sym (c.empties.ensures.vacant.0 c.if-empties.true)))

@@ -9,7 +9,7 @@ use Rattle.set_facts.proofs.group.GroupFacts.holding.Goals as goal
 
 pub loop-cursor-init : goal.loop-cursor-init
 loop-cursor-init c =
-    holding_begins c.args.update c.args.place (option_map fact_of (option_copied c.args.past)) c.args.self.now (option_map fact_of (option_copied c.beyond-cursor.result)) c.beyond-cursor.ensures.in_order c.beyond-cursor.ensures.found
+    holding_begins c.args.name.update c.args.name.place (option_map fact_of (option_copied c.args.past)) c.args.self.now (option_map fact_of (option_copied c.beyond-cursor.result)) c.beyond-cursor.ensures.in_order c.beyond-cursor.ensures.found
 
 pub loop-cursor-smaller : goal.loop-cursor-smaller
 loop-cursor-smaller c =
@@ -22,11 +22,11 @@ pub loop-cursor-preserved : goal.loop-cursor-preserved
 loop-cursor-preserved c =
     let t = fact_of c.in-Some.found.now in
     let at = ap (λ (o : Option (Bor Tuple)). option_map fact_of (option_copied o)) c.in-Some.is in
-    miss (holds_null c.args.update c.args.place) above c.args.self.now (option_map fact_of (option_copied c.loop-cursor.cursor)) _ t (option_map fact_of (option_copied c.beyond-cursor-in-Some.result))
+    miss (holds_null c.args.name.update c.args.name.place) above c.args.self.now (option_map fact_of (option_copied c.loop-cursor.cursor)) _ t (option_map fact_of (option_copied c.beyond-cursor-in-Some.result))
     c.beyond-cursor-in-Some.ensures.in_order (beyond_follows (Some t)) at c.beyond-cursor-in-Some.ensures.found (sym c.if-holds_null.ensures.answer) c.loop-cursor.invariant
 
 pub returns-then-holds_null-clause-found : goal.returns-then-holds_null-clause-found
 returns-then-holds_null-clause-found c =
     let t = fact_of c.in-Some.found.now in
     let at = ap (λ (o : Option (Bor Tuple)). option_map fact_of (option_copied o)) c.in-Some.is in
-    hit (holds_null c.args.update c.args.place) above c.args.self.now (option_map fact_of (option_copied c.loop-cursor.cursor)) _ t at (sym c.if-holds_null.ensures.answer) c.loop-cursor.invariant
+    hit (holds_null c.args.name.update c.args.name.place) above c.args.self.now (option_map fact_of (option_copied c.loop-cursor.cursor)) _ t at (sym c.if-holds_null.ensures.answer) c.loop-cursor.invariant

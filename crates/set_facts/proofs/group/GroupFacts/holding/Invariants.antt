@@ -11,8 +11,8 @@ use Rattle.set_facts.proofs.group.GroupFacts.holding.Given as goal
 -- What is ahead has the tuple that is wanted, if there is one.
 abbrev pub invariant-loop-cursor : goal.invariant-loop-cursor
 invariant-loop-cursor l =
-    find (holds_null l.update l.place) (ahead above l.self (option_map fact_of (option_copied l.cursor)))
-    ≡ find (is_holding l.update l.place (option_map fact_of (option_copied l.past))) l.self
+    find (holds_null l.name.update l.name.place) (ahead above l.self (option_map fact_of (option_copied l.cursor)))
+    ≡ find (is_holding l.name.update l.name.place (option_map fact_of (option_copied l.past))) l.self
 
 -- How many tuples are ahead.
 abbrev pub decreases-loop-cursor : goal.decreases-loop-cursor

@@ -9,8 +9,8 @@ use Rattle.set_facts.proofs.overlay.OverlayFacts.holding.Goals as goal
 
 pub returns-clause-found : goal.returns-clause-found
 returns-clause-found g c =
-    let u = c.args.update in
-    let k = c.args.place in
+    let u = c.args.name.update in
+    let k = c.args.name.place in
     let past = option_map fact_of (option_copied c.args.past) in
     overlay_found (is_holding u k past) (λ t. is_holding u k (Some t)) (g.F.Facts.tuples c.self.inside.facts.now) c.self.inside.gone c.self.inside.added c.args.self.now _ _ _ _ (holding_follows u k past) c.holding-below.ensures.in_order c.holding.ensures.in_order c.self.view_is
     c.holding-below.ensures.found c.remaining-left.ensures.found c.holding.ensures.found c.least.ensures.least

@@ -11,8 +11,8 @@ use Rattle.set_versions.proofs.tables.Table.holding.Goals as goal
 pub returns-clause-found : goal.returns-clause-found
 returns-clause-found c =
     let n = c.args.number in
-    let u = c.args.update in
-    let k = c.args.place in
+    let u = c.args.name.update in
+    let k = c.args.name.place in
     let past = option_map fact_of (option_copied c.args.past) in
     seen_by n (is_holding u k past) (λ x. place_beyond past (fact_of x)) (λ f. stands n f.1 && holds_null u k (fact_of f.0)) (holding_same n u k past) c.self.inside.rows _ _ c.find_in.ensures.found c.tuple_in.ensures
     ∙ ap (λ es. find (is_holding u k past) (visible n es)) c.self.view_is

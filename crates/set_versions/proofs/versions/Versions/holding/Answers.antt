@@ -13,8 +13,8 @@ use Rattle.set_versions.proofs.versions.Versions.holding.Goals as goal
 pub returns-clause-found : goal.returns-clause-found
 returns-clause-found c =
     let n = c.args.number in
-    let u = c.args.update in
-    let k = c.args.place in
+    let u = c.args.name.update in
+    let k = c.args.name.place in
     let past = option_map fact_of (option_copied c.args.past) in
     let rows = c.table.result.now in
     overlay_found (is_holding u k past) (λ t. is_holding u k (Some t)) c.base-base.result.now c.taken.result.now (visible n rows) (seen n c.args.self.now) _ _ _ _ (holding_follows u k past) c.holding-below.ensures.in_order c.holding.ensures.in_order
