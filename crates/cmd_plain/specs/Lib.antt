@@ -3,7 +3,6 @@ pub mod Base
 pub mod Commands
 pub mod Journaled
 pub mod Runs
-pub mod Violations
 pub mod Written
 pub mod Explained
 pub mod Audited

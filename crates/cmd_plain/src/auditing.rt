@@ -8,7 +8,7 @@ ghost use Rattle.audit_updates.specs.Settings.{settings_of};
 ghost use Rattle.lang_session.specs.Base.{base_violation};
 ghost use Rattle.lang_session.specs.Meanings.{session_of};
 
-use crate::{OnSession, SessionCommand, base_refusal, base_violation};
+use crate::{OnSession, SessionCommand, base_refusal};
 use audit_claims::{result_part, session_part};
 use audit_verdict::{Terms, Verdict, audit, verdict_line};
 use base_limits::Budget;
@@ -16,6 +16,7 @@ use base_types::Memory;
 use cmd_frame::{Command, Ending, Output};
 use lang_report::result_text;
 use lang_session::Session;
+use run_base::base_violation;
 use run_serial::{base_of, serial};
 use std::alloc::Global;
 

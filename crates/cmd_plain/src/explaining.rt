@@ -12,13 +12,14 @@ ghost use Rattle.lang_session.specs.Base.{base_violation};
 ghost use Rattle.lang_session.specs.Meanings.{session_of};
 ghost use Rattle.cmd_plain.specs.Explained.{absent_output, absent_text, explained, explained_of, explanation_in, reasons_output, reasons_text};
 
-use crate::{SessionCommand, base_refusal, base_violation, ending_by};
+use crate::{SessionCommand, base_refusal, ending_by};
 use base_limits::Budget;
 use base_types::{Memory, Tuple};
 use chase_update::SessionResult;
 use cmd_frame::Output;
 use lang_reader::{RawFact, tuple_in};
 use lang_session::Session;
+use run_base::base_violation;
 use run_explain::{Explanation, explain_over, explanation_text};
 use run_serial::{base_of, serial_over};
 use set_facts::IndexedFacts;

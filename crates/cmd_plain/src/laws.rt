@@ -29,8 +29,8 @@ pub fn runs_write_what_holds()
 /// If `serial`, with a valid budget, ends or stops at a question, every mapping in force holds in the repository that it has
 /// written.
 pub fn performed_runs_write_what_holds()
-    ensures { (steps : ℕ) (status : Status) (source out err : Change) → 1 ≤ steps → steps ≤ 1000001 →
-        HasWritten status → Row status (on_session (ran steps)) source out err →
+    ensures { (steps : ℕ) (status : Status) (source out err : Change) → 1 ≤ steps →
+        steps ≤ 1000001 → HasWritten status → Row status (on_session (ran steps)) source out err →
         WroteWhatHolds steps source out }
 {
     spelled_sessions_are_valid();

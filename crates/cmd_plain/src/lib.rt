@@ -21,7 +21,7 @@ mod sessions;
 pub use crate::asking::Ask;
 pub use crate::audit_laws::audited_inputs_have_one_output;
 pub use crate::auditing::Audit;
-pub use crate::base::{Violated, base_refusal, base_violation};
+pub use crate::base::base_refusal;
 pub use crate::explaining::Explain;
 pub use crate::journaling::Journal;
 pub use crate::laws::{

@@ -19,12 +19,13 @@ use base_devices::{Sink, Source, read_all};
 use base_limits::Budget;
 use base_types::Memory;
 use cmd_frame::{Failure, INPUT_LIMIT, Output, Status, deliver, fail};
-use cmd_plain::{base_refusal, base_violation, ending_by, fault_refusal};
+use cmd_plain::{base_refusal, ending_by, fault_refusal};
 use core_entries::Entry;
 use lang_reader::{ReadFailure, read_session};
 use lang_report::result_text;
 use lang_schema::Schema;
 use lang_session::Session;
+use run_base::base_violation;
 use run_serial::base_of;
 use set_facts::IndexedFacts;
 use std::alloc::Global;
@@ -50,7 +51,8 @@ pub struct Run {
 // The base of the session as a set of tuples, if it violates no mapping; otherwise the refusal with the violation.
 fn met_base(alloc: Global, session: &Session) -> Result<Result<IndexedFacts, Output>, Memory>
     requires valid { IsSession (session_of session.now) }
-    ensures base { IfOk result (λ found. IfOk found (λ base. base ≡ (session_of session.now).base)) }
+    ensures base { IfOk result (λ found. IfOk found (λ base.
+        base ≡ (session_of session.now).base)) }
     ensures met { IfOk result (λ found. IfOk found (λ _.
         base_violation (session_of session.now) ≡ None)) }
     ensures violated { IfOk result (λ found. IfErr found (IsRefusal (session_of session.now))) }

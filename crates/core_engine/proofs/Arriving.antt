@@ -1,5 +1,5 @@
 -- The admission of one more update follows, and is one of the core.
-use Rattle.std.proofs.Common.{◌≡◌, ◌∙◌, ap, refl, sym, subst, ℕ, zero, suc, ◌<◌, ◌+◌, Some, List, [], ◌∷◌, ◌++◌, map, length, arith}
+use Rattle.std.proofs.Common.{◌≡◌, ◌∙◌, ap, refl, sym, subst, ℕ, zero, suc, ◌<◌, ◌+◌, Some, true, List, [], ◌∷◌, ◌++◌, map, length, arith}
 use Rattle.std.specs.Prelude.{option_map, slice_get}
 use Rattle.base_types.specs.Listed.{Listed}
 use Rattle.base_types.specs.Meanings.{choice_of, operation_of}
@@ -9,7 +9,7 @@ use Rattle.base_types.specs.declared.updates.Update.{Update as UpdateOfProgram}
 use Rattle.core_entries.specs.Meanings.{entry_of}
 use Rattle.core_entries.specs.declared.entries.Entry.{Entry}
 use Rattle.core_entries.specs.declared.entries.Entry.TheVariants.{Admitted as AdmittedEntry}
-use Rattle.def_history.specs.Cores.{Ground, session_over, updates_after, effect_after}
+use Rattle.def_history.specs.Cores.{Ground, grown, session_over, updates_after, effect_after}
 use Rattle.def_history.specs.CoreLaws.{Leave, handed}
 use Rattle.def_history.specs.PlainEntries.{PlainEntry, WasAdmitted, plain_entry}
 use Rattle.def_history.proofs.Keeping.{histories_are_kept}
@@ -29,8 +29,13 @@ use Rattle.set_versions.specs.Trails.{numbered}
 use Rattle.core_engine.specs.Admissions.{AdmitsTo, IsNew}
 use Rattle.core_engine.specs.Follows.{Follows, ground_with}
 use Rattle.core_engine.specs.Kept.{IsKept, HaveTrails, ground_by}
-use Rattle.core_engine.specs.LiveCalls.{HasAdmitted}
-use Rattle.core_engine.specs.States.{State}
+use Rattle.core_engine.specs.LiveCalls.{HasAdmitted, admits_at}
+use Rattle.core_engine.specs.Lives.{CameOf}
+use Rattle.core_laws.specs.Live.{IsOfSession}
+use Rattle.core_laws.proofs.Growing.{live_grows}
+use Rattle.def_language.specs.Sessions.{RelationSchema}
+use Rattle.lang_session.specs.Admissible.{admits}
+use Rattle.core_engine.specs.States.{State, updates_at}
 use Rattle.core_engine.proofs.Delivering.{mapped_more}
 use Rattle.core_engine.proofs.Following.{mapped_long}
 use Rattle.core_engine.proofs.Opening.{from_more, one_longer}
@@ -106,13 +111,30 @@ new_by n u none rs rs' r empty is stands grew = record {
 
 -- ---- on a core
 
+-- If nothing was changed.
+module _ (ms : List Rule) (B : ℕ) (c : Settings) (base : Listed Tuple) (us : Listed SessionUpdate) (later later' : Listed UpdateOfProgram) (same : later'.items ≡ later.items) where
+  abbrev over_these : List UpdateOfProgram → Ground
+  over_these xs = ground_with ms c B (ground_by ms B c base us later).base (ground_by ms B c base us later).requests (map (λ (u : UpdateOfProgram). operation_of u.operation) xs)
+
+  pub unchanged_kept : (v : Kept) (rs rs' : List QueuedUpdate) (es es' : List Entry) → IsKept (ground_by ms B c base us later) v rs (map entry_of es) → rs' ≡ rs → es' ≡ es
+      → IsKept (ground_by ms B c base us later') v rs' (map entry_of es')
+  unchanged_kept v rs rs' es es' kept queue history =
+      subst (λ (xs : List UpdateOfProgram). IsKept (over_these xs) v rs' (map entry_of es')) (sym same)
+      (subst (λ (qs : List QueuedUpdate). IsKept (ground_by ms B c base us later) v qs (map entry_of es')) (sym queue)
+      (subst (λ (fs : List Entry). IsKept (ground_by ms B c base us later) v rs (map entry_of fs)) (sym history) kept))
+
+  pub unchanged_came : (R : List RelationSchema) → CameOf R (ground_by ms B c base us later) → CameOf R (ground_by ms B c base us later')
+  unchanged_came R came = subst (λ (xs : List UpdateOfProgram). CameOf R (over_these xs)) (sym same) came
+
+-- If one was admitted.
+
 module _ (ms : List Rule) (B : ℕ) (c : Settings) (base : Listed Tuple) (us : Listed SessionUpdate) (later later' : Listed UpdateOfProgram) (v : Kept) (rs rs' : List QueuedUpdate) (es es' : List Entry) (u : UpdateOfProgram) (kept : IsKept (ground_by ms B c base us later) v rs (map entry_of es))
-    (grew : later'.items ≡ later.items ++ u ∷ []) (admits : AdmitsTo (operation_of u.operation) rs es rs' es') where
+    (grew : later'.items ≡ later.items ++ u ∷ []) (to : AdmitsTo (operation_of u.operation) rs es rs' es') where
   more_handed : map (λ (w : UpdateOfProgram). operation_of w.operation) later'.items ≡ map (λ (w : UpdateOfProgram). operation_of w.operation) later.items ++ operation_of u.operation ∷ []
   more_handed = ap (map (λ (w : UpdateOfProgram). operation_of w.operation)) grew ∙ map_more (λ (w : UpdateOfProgram). operation_of w.operation) later.items u
 
   made : Follows (handed (ground_by ms B c base us later) (operation_of u.operation)) Admits (map entry_of es) v rs' (map entry_of es')
-  made = let g : Ground = ground_by ms B c base us later in admits ms c v B g.base g.requests g.later kept
+  made = let g : Ground = ground_by ms B c base us later in to ms c v B g.base g.requests g.later kept
 
   same_over : ground_by ms B c base us later' ≡ handed (ground_by ms B c base us later) (operation_of u.operation)
   same_over = let g : Ground = ground_by ms B c base us later in λ i. record { rules = ms; budget = B; settings = c; base = g.base; requests = g.requests; later = more_handed i }
@@ -120,7 +142,24 @@ module _ (ms : List Rule) (B : ℕ) (c : Settings) (base : Listed Tuple) (us : L
   pub admission_kept : IsKept (ground_by ms B c base us later') v rs' (map entry_of es')
   admission_kept = subst (λ (g : Ground). IsKept g v rs' (map entry_of es')) (sym same_over) made.kept
 
-  pub has_admitted : (old new : State) → record { over = ground_by ms B c base us later; history = map entry_of es } ≡ old → record { over = ground_by ms B c base us later'; history = map entry_of es' } ≡ new → HasAdmitted old (operation_of u.operation) new
-  has_admitted old new a b =
-      subst (λ (o : State). HasAdmitted o (operation_of u.operation) new) a
-      (subst (λ (w : State). HasAdmitted (record { over = ground_by ms B c base us later; history = map entry_of es }) (operation_of u.operation) w) b (record { over = same_over; grows = made.grows }))
+  pub has_admitted : {R : List RelationSchema} (old new : State) → record { over = ground_by ms B c base us later; history = map entry_of es; relations = R } ≡ old → record { over = ground_by ms B c base us later'; history = map entry_of es'; relations = R } ≡ new
+      → admits_at old (operation_of u.operation) ≡ true → HasAdmitted old (operation_of u.operation) new
+  has_admitted old new a b fits = record {
+    fits = fits;
+    over = sym (ap (λ (t : State). t.over) b) ∙ same_over ∙ ap (λ (t : State). handed t.over (operation_of u.operation)) a;
+    grows =
+        ap (λ (t : State). grown (handed t.over (operation_of u.operation)) t.history Admits) (sym a) ∙ made.grows ∙ ap (λ (t : State). Some t.history) b;
+    relations = sym (ap (λ (t : State). t.relations) b) ∙ ap (λ (t : State). t.relations) a;
+  }
+
+  -- What the history is over came of the same session.
+  pub admission_came : {R : List RelationSchema} (old : State) → record { over = ground_by ms B c base us later; history = map entry_of es; relations = R } ≡ old → admits_at old (operation_of u.operation) ≡ true
+      → CameOf R (ground_by ms B c base us later) → CameOf R (ground_by ms B c base us later')
+  admission_came old a fits came = record {
+    session = came.session;
+    of =
+        subst (IsOfSession came.session) (sym same_over)
+        (live_grows came.session (ground_by ms B c base us later) (length (updates_at old)) (operation_of u.operation) came.of
+        (ap (λ (rs : List RelationSchema). admits rs (length (updates_at old)) (operation_of u.operation)) (came.same ∙ ap (λ (t : State). t.relations) a) ∙ fits));
+    same = came.same;
+  }

@@ -14,7 +14,7 @@ use Rattle.core_queue.specs.declared.updates.QueuedUpdate.{QueuedUpdate}
 use Rattle.def_steps.specs.Chase.{caused_chase}
 use Rattle.core_engine.specs.Follows.{AreSame, KeepsCommitted, KeepsUnready}
 use Rattle.core_engine.proofs.Following.{marks_for, marked_so}
-use Rattle.core_engine.proofs.Making.{front}
+use Rattle.core_engine.proofs.Small.{front}
 
 -- With another update at the place, and whatever behind it.
 placed : (M : Machine) (us : List (Update M)) (k c : ℕ) (v : Update M) (ws : List (Update M)) → c ≤ k → c ≤ committed M us → c ≤ committed M (take (suc k) (set us k v) ++ ws)

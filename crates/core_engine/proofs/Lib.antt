@@ -7,6 +7,7 @@ pub mod Opening
 pub mod Delivering
 pub mod Telling
 pub mod Entering
+pub mod Small
 pub mod Making
 pub mod Planning
 pub mod Replying

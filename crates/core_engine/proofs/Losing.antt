@@ -28,6 +28,7 @@ use Rattle.core_queue.specs.Order.{HasCommitted}
 use Rattle.core_queue.specs.declared.updates.QueuedUpdate.{QueuedUpdate}
 use Rattle.def_steps.specs.Chase.{caused_chase}
 use Rattle.set_versions.specs.Standing.{Kept, Retracted}
+use Rattle.def_language.specs.Sessions.{RelationSchema}
 use Rattle.core_engine.specs.Aftermaths.{Cleared, ClearedIf, in_order}
 use Rattle.core_engine.specs.Follows.{Follows, ground_with, AreSame}
 use Rattle.core_engine.specs.Kept.{IsKept}
@@ -149,7 +150,7 @@ live_stands (Some st) c n e = (st, refl)
 pub live_number : (s : State) (n : ℕ) → is_live_in (standing_at s n) (committed_at s) n ≡ true → (st : Standing) × (standing_at s n ≡ Some st)
 live_number s n live = live_stands (standing_at s n) (committed_at s) n live
 
-module _ (g : Ground) (v : Kept) (rs : List QueuedUpdate) (es : List Entry) (s : State) (kept : IsKept g v rs (map entry_of es)) (same : record { over = g; history = map entry_of es } ≡ s) (n : ℕ) (live : is_live_in (standing_at s n) (committed_at s) n ≡ true) (i : ℕ) (e : suc i ≡ n)
+module _ {R : List RelationSchema} (g : Ground) (v : Kept) (rs : List QueuedUpdate) (es : List Entry) (s : State) (kept : IsKept g v rs (map entry_of es)) (same : record { over = g; history = map entry_of es; relations = R } ≡ s) (n : ℕ) (live : is_live_in (standing_at s n) (committed_at s) n ≡ true) (i : ℕ) (e : suc i ≡ n)
     (qs : List QueuedUpdate) (slice : qs ≡ rs) where
   pub live_within : i < length qs
   live_within =

@@ -44,13 +44,18 @@ use Rattle.def_steps.specs.Serial.{Request}
 use Rattle.set_versions.proofs.Numbered.{below_is_seen}
 use Rattle.set_versions.specs.Standing.{Kept, StandFor, seen}
 use Rattle.set_versions.specs.Trails.{no_trails}
-use Rattle.core_engine.specs.Admitted.{AreAdmitted, admitted_from, handed_in}
+use Rattle.core_engine.proofs.Small.{front, both_true}
+use Rattle.core_engine.specs.Admitted.{AreAdmitted as AreQueued, admitted_from, handed_in}
 use Rattle.core_engine.specs.Events.{HasMade}
+use Rattle.core_engine.specs.Lives.{CameOf}
+use Rattle.core_laws.specs.Live.{AreAdmitted}
+use Rattle.def_language.specs.Validity.{IsSession}
+use Rattle.lang_session.specs.Base.{base_violation}
 use Rattle.core_engine.specs.Follows.{Follows, meant_of, AreSame, IsPlanFor, IsPlanAt, StepsTo, DeliversTo}
 use Rattle.core_engine.specs.Kept.{IsKept, HaveTrails, ground_by}
 use Rattle.core_engine.specs.Planned.{PlanMeant, IsSomeThat, IsStepOver, IsStepAmong, IsStepAt}
 use Rattle.core_engine.specs.States.{State, numbered_at, standing_at, has_waiting, admissions_from, opened}
-use Rattle.def_language.specs.Sessions.{SessionData}
+use Rattle.def_language.specs.Sessions.{RelationSchema, SessionData}
 use Rattle.def_language.specs.Checks.{rules_of}
 use Rattle.core_engine.specs.Taken.{AtPlace, IsHeldBy, IsReadySomewhere, IsSnapshotOf}
 use Rattle.def_machine.specs.Machine.{Machine}
@@ -94,7 +99,7 @@ all_read : {A B : Type 0} (p : A → Bool) (f : A → B) (q : B → Bool) → ((
 all_read p f q same [] = refl
 all_read p f q same (x ∷ xs) = λ i. same x i && all_read p f q same xs i
 
-module _ (g : Ground) (v : Kept) (rs : List QueuedUpdate) (H : List PlainEntry) (s : State) (kept : IsKept g v rs H) (same : record { over = g; history = H } ≡ s) (n : ℕ) (st : Standing) (stands : standing_at s n ≡ Some st) where
+module _ {R : List RelationSchema} (g : Ground) (v : Kept) (rs : List QueuedUpdate) (H : List PlainEntry) (s : State) (kept : IsKept g v rs H) (same : record { over = g; history = H; relations = R } ≡ s) (n : ℕ) (st : Standing) (stands : standing_at s n ≡ Some st) where
   stands_here : option_map (standing (machine g) g.settings (committed (machine g) (updates_of g.rules g.budget rs)) n) (numbered_at (updates_of g.rules g.budget rs) n) ≡ Some st
   stands_here =
       sym (ap (λ (us : List (Update (machine g))). option_map (standing (machine g) g.settings (committed (machine g) us) n) (numbered_at us n)) kept.left.leaves)
@@ -119,8 +124,7 @@ module _ (g : Ground) (v : Kept) (rs : List QueuedUpdate) (H : List PlainEntry) 
       same_Some _ _ (sym (ap (option_map (standing (machine g) g.settings (committed (machine g) (updates_of g.rules g.budget rs)) (suc i))) (slice_get-map (update_of g.rules g.budget) rs i ∙ ap (option_map (update_of g.rules g.budget)) spot)) ∙ stands_placed i e)
 
 -- ---- ready updates
-
-module _ (g : Ground) (v : Kept) (rs : List QueuedUpdate) (H : List PlainEntry) (s : State) (kept : IsKept g v rs H) (same : record { over = g; history = H } ≡ s) (n : ℕ) (stands : standing_at s n ≡ Some Ready) (i : ℕ) (e : suc i ≡ n) (qs : List QueuedUpdate) (slice : qs ≡ rs) where
+module _ {R : List RelationSchema} (g : Ground) (v : Kept) (rs : List QueuedUpdate) (H : List PlainEntry) (s : State) (kept : IsKept g v rs H) (same : record { over = g; history = H; relations = R } ≡ s) (n : ℕ) (stands : standing_at s n ≡ Some Ready) (i : ℕ) (e : suc i ≡ n) (qs : List QueuedUpdate) (slice : qs ≡ rs) where
   pub ready_within : i < length qs
   ready_within = subst (λ (xs : List QueuedUpdate). i < length xs) (sym slice) (placed_within g v rs H s kept same n Ready stands i (sym e))
 
@@ -170,7 +174,7 @@ module _ (g : Ground) (v : Kept) (rs : List QueuedUpdate) (H : List PlainEntry) 
 
 -- ---- plans
 
-planned_placed : (g : Ground) (v : Kept) (rs : List QueuedUpdate) (H : List PlainEntry) (s : State) (i : ℕ) (p : PlanMeant) → IsKept g v rs H → record { over = g; history = H } ≡ s → p.update ≡ suc i → IsStepAt s p
+planned_placed : {R : List RelationSchema} (g : Ground) (v : Kept) (rs : List QueuedUpdate) (H : List PlainEntry) (s : State) (i : ℕ) (p : PlanMeant) → IsKept g v rs H → record { over = g; history = H; relations = R } ≡ s → p.update ≡ suc i → IsStepAt s p
     → IsStepAmong g.rules g.budget g.base (updates_of g.rules g.budget rs) (suc i) p
 planned_placed g v rs H s i p kept same e is =
     subst (λ (m : ℕ). IsStepAmong g.rules g.budget g.base (updates_of g.rules g.budget rs) m p) e
@@ -178,7 +182,7 @@ planned_placed g v rs H s i p kept same e is =
     (subst (λ (t : State). IsStepAt t p) (sym same) is))
 
 -- A plan of its step is one at the place.
-pub plan_placed : (g : Ground) (v : Kept) (rs : List QueuedUpdate) (H : List PlainEntry) (s : State) (i : ℕ) (r : QueuedUpdate) (plan : Plan) → IsKept g v rs H → record { over = g; history = H } ≡ s → slice_get rs i ≡ Some r
+pub plan_placed : {R : List RelationSchema} (g : Ground) (v : Kept) (rs : List QueuedUpdate) (H : List PlainEntry) (s : State) (i : ℕ) (r : QueuedUpdate) (plan : Plan) → IsKept g v rs H → record { over = g; history = H; relations = R } ≡ s → slice_get rs i ≡ Some r
     → IsStepAt s (meant_of (suc i) plan) → IsPlanAt i plan rs
 plan_placed g v rs H s i r plan kept same spot is =
     let us : List (Update (machine g)) = updates_of g.rules g.budget rs in
@@ -189,7 +193,7 @@ plan_placed g v rs H s i r plan kept same spot is =
     (record { rules = g.rules; budget = g.budget; below = below (machine g) g.base us i; planned = record { program = step.program; reads = step.reads } })
 
 -- A snapshot of the queued update is the step of its update.
-pub snapshot_is : (g : Ground) (v : Kept) (rs : List QueuedUpdate) (H : List PlainEntry) (s : State) (i : ℕ) (r : QueuedUpdate) (p : PlanMeant) → IsKept g v rs H → record { over = g; history = H } ≡ s → slice_get rs i ≡ Some r
+pub snapshot_is : {R : List RelationSchema} (g : Ground) (v : Kept) (rs : List QueuedUpdate) (H : List PlainEntry) (s : State) (i : ℕ) (r : QueuedUpdate) (p : PlanMeant) → IsKept g v rs H → record { over = g; history = H; relations = R } ≡ s → slice_get rs i ≡ Some r
     → IsSnapshotOf g.rules g.budget v r p → IsStepAt s p
 snapshot_is g v rs H s i r p kept same spot is =
     let us : List (Update (machine g)) = updates_of g.rules g.budget rs in
@@ -206,7 +210,7 @@ snapshot_is g v rs H s i r p kept same spot is =
 
 -- ---- what calls made
 
-pub step_made : (g : Ground) (v v' : Kept) (rs rs' : List QueuedUpdate) (es es' : List Entry) (old new : State) (i n : ℕ) (plan : Plan) → IsKept g v rs (map entry_of es) → record { over = g; history = map entry_of es } ≡ old
+pub step_made : {R : List RelationSchema} (g : Ground) (v v' : Kept) (rs rs' : List QueuedUpdate) (es es' : List Entry) (old new : State) (i n : ℕ) (plan : Plan) → IsKept g v rs (map entry_of es) → record { over = g; history = map entry_of es; relations = R } ≡ old
     → n ≡ suc i → standing_at old n ≡ Some Ready → IsStepAt old (meant_of n plan) → StepsTo g.rules g.settings i plan v rs es v' rs' es' → Follows g (Steps n) (map entry_of es) v' rs' (map entry_of es')
 step_made g v v' rs rs' es es' old new i n plan kept same e ready is steps =
     let made : Follows g (Steps (suc i)) (map entry_of es) v' rs' (map entry_of es') =
@@ -215,23 +219,24 @@ step_made g v v' rs rs' es es' old new i n plan kept same e ready is steps =
     subst (λ (m : ℕ). Follows g (Steps m) (map entry_of es) v' rs' (map entry_of es')) (sym e) made
 
 -- What was made on the parts was made on the core.
-pub has_made : (e : (g : Ground) → Event (machine g)) (g : Ground) (v : Kept) (rs : List QueuedUpdate) (H H' : List PlainEntry) (old new : State) → record { over = g; history = H } ≡ old → record { over = g; history = H' } ≡ new
-    → Follows g (e g) H v rs H' → HasMade old (e old.over) new
-has_made e g v rs H H' old new a b f =
-    subst (λ (o : State). HasMade o (e o.over) new) a (subst (λ (w : State). HasMade (record { over = g; history = H }) (e g) w) b (record { grows = f.grows; over = refl }))
+module _ {R : List RelationSchema} where
+  pub has_made : (e : (g : Ground) → Event (machine g)) (g : Ground) (v : Kept) (rs : List QueuedUpdate) (H H' : List PlainEntry) (old new : State) → record { over = g; history = H; relations = R } ≡ old → record { over = g; history = H'; relations = R } ≡ new
+      → Follows g (e g) H v rs H' → HasMade old (e old.over) new
+  has_made e g v rs H H' old new a b f =
+      subst (λ (o : State). HasMade o (e o.over) new) a (subst (λ (w : State). HasMade (record { over = g; history = H; relations = R }) (e g) w) b (record { grows = f.grows; over = refl; relations = refl }))
 
-pub has_stepped : (g : Ground) (v : Kept) (rs : List QueuedUpdate) (H H' : List PlainEntry) (old new : State) (n : ℕ) → record { over = g; history = H } ≡ old → record { over = g; history = H' } ≡ new
+pub has_stepped : {R : List RelationSchema} (g : Ground) (v : Kept) (rs : List QueuedUpdate) (H H' : List PlainEntry) (old new : State) (n : ℕ) → record { over = g; history = H; relations = R } ≡ old → record { over = g; history = H'; relations = R } ≡ new
     → Follows g (Steps n) H v rs H' → HasMade old (Steps n) new
 has_stepped g v rs H H' old new n = has_made (λ o. Steps n) g v rs H H' old new
 
-pub has_delivered : (g : Ground) (v : Kept) (rs : List QueuedUpdate) (H H' : List PlainEntry) (old new : State) (n : ℕ) → record { over = g; history = H } ≡ old → record { over = g; history = H' } ≡ new
+pub has_delivered : {R : List RelationSchema} (g : Ground) (v : Kept) (rs : List QueuedUpdate) (H H' : List PlainEntry) (old new : State) (n : ℕ) → record { over = g; history = H; relations = R } ≡ old → record { over = g; history = H'; relations = R } ≡ new
     → Follows g (Delivers n) H v rs H' → HasMade old (Delivers n) new
 has_delivered g v rs H H' old new n = has_made (λ o. Delivers n) g v rs H H' old new
 
 -- ---- the opening
 
 pub opened_kept : (ms : List Rule) (B : ℕ) (c : Settings) (base : Listed Tuple) (us : Listed SessionUpdate) (later : Listed UpdateOfProgram) (v : Kept) (rs : List QueuedUpdate) (es : List Entry) (n : ℕ) → later.items ≡ [] → 1 ≤ B → c.retries ≤ 4 → AreWithin ms → IsRepository (map fact_of base.items)
-    → length us.items ≤ 1000 → AreAdmitted us.items rs → AreFrom 1 rs → length rs ≡ length us.items → n ≡ length us.items → map entry_of es ≡ admissions_from 1 n → StandFor v (map fact_of base.items) no_trails
+    → length us.items ≤ 1000 → AreQueued us.items rs → AreFrom 1 rs → length rs ≡ length us.items → n ≡ length us.items → map entry_of es ≡ admissions_from 1 n → StandFor v (map fact_of base.items) no_trails
     → IsKept (ground_by ms B c base us later) v rs (map entry_of es)
 opened_kept ms B c base us later v rs es n none some retries within' sorted few are numbers long count entries stands =
     let g : Ground = ground_by ms B c base us later in
@@ -265,7 +270,7 @@ queued_placed [] i l = absurd (omega (arith, l))
 queued_placed (r ∷ rs) zero l = (r, refl)
 queued_placed (r ∷ rs) (suc i) l = queued_placed rs i (omega (arith, l))
 
-module _ (g : Ground) (v : Kept) (rs : List QueuedUpdate) (H : List PlainEntry) (s : State) (kept : IsKept g v rs H) (same : record { over = g; history = H } ≡ s) (n : ℕ) (stands : standing_at s n ≡ Some Ready) (i : ℕ) (e : suc i ≡ n) (qs : List QueuedUpdate) (slice : qs ≡ rs)
+module _ {R : List RelationSchema} (g : Ground) (v : Kept) (rs : List QueuedUpdate) (H : List PlainEntry) (s : State) (kept : IsKept g v rs H) (same : record { over = g; history = H; relations = R } ≡ s) (n : ℕ) (stands : standing_at s n ≡ Some Ready) (i : ℕ) (e : suc i ≡ n) (qs : List QueuedUpdate) (slice : qs ≡ rs)
     (ms : List Rule) (rules : ms ≡ g.rules) (p : PlanMeant) (taken : AtPlace i qs (λ r. IsSnapshotOf ms g.budget v r p)) where
   taken_there : (r : QueuedUpdate) × (slice_get rs i ≡ Some r) × IsSnapshotOf g.rules g.budget v r p
   taken_there =
@@ -284,20 +289,36 @@ pub few_updates : (us xs : List SessionUpdate) → xs ≡ us → length (map ses
 few_updates us xs e h = let l : length xs ≡ length us = ap (λ ys. length ys) e in omega (arith, h, l, mapped_long session_update_of us)
 
 pub opened_by : (ms : List Rule) (B : ℕ) (c : Settings) (base : Listed Tuple) (us : Listed SessionUpdate) (later : Listed UpdateOfProgram) (D : List Fact) (xs : List SessionUpdate) (v : Kept) (rs : List QueuedUpdate) (es : List Entry) → later.items ≡ [] → 1 ≤ B → c.retries ≤ 4 → AreWithin ms → IsRepository (map fact_of base.items)
-    → length xs ≤ 1000 → D ≡ map fact_of base.items → xs ≡ us.items → AreAdmitted xs rs → AreFrom 1 rs → length rs ≡ length xs → map entry_of es ≡ admissions_from 1 (length xs) → StandFor v D no_trails
+    → length xs ≤ 1000 → D ≡ map fact_of base.items → xs ≡ us.items → AreQueued xs rs → AreFrom 1 rs → length rs ≡ length xs → map entry_of es ≡ admissions_from 1 (length xs) → StandFor v D no_trails
     → IsKept (ground_by ms B c base us later) v rs (map entry_of es)
 opened_by ms B c base us later D xs v rs es none some retries within' sorted few tuples updates are numbers long entries stands =
-    opened_kept ms B c base us later v rs es (length xs) none some retries within' sorted (subst (λ (ys : List SessionUpdate). length ys ≤ 1000) updates few) (subst (λ (ys : List SessionUpdate). AreAdmitted ys rs) updates are) numbers
+    opened_kept ms B c base us later v rs es (length xs) none some retries within' sorted (subst (λ (ys : List SessionUpdate). length ys ≤ 1000) updates few) (subst (λ (ys : List SessionUpdate). AreQueued ys rs) updates are) numbers
     (long ∙ ap (λ ys. length ys) updates) (ap (λ ys. length ys) updates) entries (subst (λ (E : List Fact). StandFor v E no_trails) tuples stands)
 
 pub opened_is : (s : SessionData) (ms : List Rule) (B : ℕ) (c : Settings) (base : Listed Tuple) (us : Listed SessionUpdate) (later : Listed UpdateOfProgram) (xs : List SessionUpdate) (es : List Entry) → later.items ≡ [] → ms ≡ rules_of s.mappings → xs ≡ us.items
     → map entry_of es ≡ admissions_from 1 (length xs) → s.base ≡ map fact_of base.items → requests_in s ≡ map request_of (map session_update_of us.items)
-    → record { over = ground_by ms B c base us later; history = map entry_of es } ≡ opened s B c (length us.items)
+    → record { over = ground_by ms B c base us later; history = map entry_of es; relations = s.relations } ≡ opened s B c (length us.items)
 opened_is s ms B c base us later xs es none rules updates entries tuples requests =
     λ i. record {
       over = record { rules = rules i; budget = B; settings = c; base = sym tuples i; requests = sym requests i; later = map (λ (u : UpdateOfProgram). operation_of u.operation) (none i) };
       history = (entries ∙ ap (λ ys. admissions_from 1 (length ys)) updates) i;
+      relations = s.relations;
     }
+
+-- What it is over came of the session.
+pub opened_came : (s : SessionData) (ms : List Rule) (B : ℕ) (c : Settings) (base : Listed Tuple) (us : Listed SessionUpdate) (later : Listed UpdateOfProgram) → later.items ≡ [] → ms ≡ rules_of s.mappings
+    → s.base ≡ map fact_of base.items → requests_in s ≡ map request_of (map session_update_of us.items) → IsSession s → base_violation s ≡ None → 1 ≤ B → CameOf s.relations (ground_by ms B c base us later)
+opened_came s ms B c base us later none rules tuples requests valid meets some = record {
+  session = s;
+  of = record {
+    valid = valid;
+    meets = meets;
+    some = some;
+    over = λ i. record { rules = rules i; budget = B; settings = c; base = sym tuples i; requests = sym requests i; later = map (λ (u : UpdateOfProgram). operation_of u.operation) later.items };
+    admitted = subst (λ (xs : List UpdateOfProgram). AreAdmitted s.relations (map (λ (u : UpdateOfProgram). operation_of u.operation) xs)) (sym none) tt;
+  };
+  same = refl;
+}
 
 -- ---- numbers of updates
 
@@ -314,7 +335,7 @@ some_number s n st h = some_at s n n st refl h
 reading_of : (p q : ProgramState) → p ≡ q → p.reading ≡ q.reading
 reading_of p q e = ap (λ (t : ProgramState). t.reading) e
 
-module _ (g : Ground) (v : Kept) (rs : List QueuedUpdate) (es : List Entry) (s : State) (kept : IsKept g v rs (map entry_of es)) (same : record { over = g; history = map entry_of es } ≡ s) (n : ℕ) (stands : standing_at s n ≡ Some Ready) (i : ℕ) (e : suc i ≡ n) (qs : List QueuedUpdate) (slice : qs ≡ rs)
+module _ {R : List RelationSchema} (g : Ground) (v : Kept) (rs : List QueuedUpdate) (es : List Entry) (s : State) (kept : IsKept g v rs (map entry_of es)) (same : record { over = g; history = map entry_of es; relations = R } ≡ s) (n : ℕ) (stands : standing_at s n ≡ Some Ready) (i : ℕ) (e : suc i ≡ n) (qs : List QueuedUpdate) (slice : qs ≡ rs)
     (plan : Plan) (p : PlanMeant) (meant : meant_of n plan ≡ p) (is : IsStepAt s p) where
   step_here : IsStepAt s (meant_of (suc i) plan)
   step_here = subst (λ (m : ℕ). IsStepAt s (meant_of m plan)) (sym e) (subst (λ (q : PlanMeant). IsStepAt s q) (sym meant) is)
@@ -337,13 +358,6 @@ module _ (g : Ground) (v : Kept) (rs : List QueuedUpdate) (es : List Entry) (s :
 
 -- ---- queued updates in place
 
-pub front : {A : Type 0} (xs ys : List A) (n : ℕ) → length xs ≡ n → take n (xs ++ ys) ≡ xs
-front [] [] zero h = refl
-front [] (y ∷ ys) zero h = refl
-front [] ys (suc n) h = absurd (omega (arith, h))
-front (x ∷ xs) ys zero h = absurd (omega (arith, h))
-front (x ∷ xs) ys (suc n) h = ap (λ zs. x ∷ zs) (front xs ys n (omega (arith, h)))
-
 pub kept_ok : (g : Ground) (v : Kept) (qs ys : List QueuedUpdate) (n : ℕ) (H : List PlainEntry) → length qs ≡ n → IsKept g v qs H → IsKept g v (take n (qs ++ ys)) H
 kept_ok g v qs ys n H l k = subst (λ (xs : List QueuedUpdate). IsKept g v xs H) (sym (front qs ys n l)) k
 
@@ -357,16 +371,13 @@ kept_err g v v' rs qs qs' ys n es es' l k slice versions same long entries =
 
 -- ---- a delivery of a core
 
-pub both_true : (a b : Bool) → a ≡ true → b ≡ true → (a && b) ≡ true
-both_true a b e f = λ i. e i && f i
-
 deliverable_if : (M : Machine) (s : Settings) (c n : ℕ) (o : Option (Update M)) → option_map (standing M s c n) o ≡ Some (Paused Missing) → unwrap_or (option_map (λ u. not (is_nil u.inbox)) o) false ≡ true
     → option_map (is_deliverable M s c n) o ≡ Some true
 deliverable_if M s c n None e w = absurd (none-some (Paused Missing) e)
 deliverable_if M s c n (Some u) e w =
     ap (λ b. Some b) (both_true (is_pending (standing M s c n u)) (not (is_nil u.inbox)) (ap is_pending (same_Some (standing M s c n u) (Paused Missing) e)) w)
 
-module _ (g : Ground) (v : Kept) (rs : List QueuedUpdate) (es : List Entry) (s : State) (kept : IsKept g v rs (map entry_of es)) (same : record { over = g; history = map entry_of es } ≡ s) (n : ℕ) (stands : standing_at s n ≡ Some (Paused Missing)) (i : ℕ) (e : suc i ≡ n) (qs : List QueuedUpdate) (slice : qs ≡ rs) where
+module _ {R : List RelationSchema} (g : Ground) (v : Kept) (rs : List QueuedUpdate) (es : List Entry) (s : State) (kept : IsKept g v rs (map entry_of es)) (same : record { over = g; history = map entry_of es; relations = R } ≡ s) (n : ℕ) (stands : standing_at s n ≡ Some (Paused Missing)) (i : ℕ) (e : suc i ≡ n) (qs : List QueuedUpdate) (slice : qs ≡ rs) where
   pub pending_within : i < length qs
   pending_within = subst (λ (xs : List QueuedUpdate). i < length xs) (sym slice) (placed_within g v rs (map entry_of es) s kept same n (Paused Missing) stands i (sym e))
 

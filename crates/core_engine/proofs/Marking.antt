@@ -35,7 +35,8 @@ use Rattle.core_engine.specs.Planned.{IsSomeThat}
 use Rattle.core_engine.specs.States.{numbered_at}
 use Rattle.core_engine.specs.declared.known.Known.{Known}
 use Rattle.core_engine.proofs.Following.{marks_for, marked_so, mapped_long, stands_at, from_mapped, within}
-use Rattle.core_engine.proofs.Making.{front, queued_placed}
+use Rattle.core_engine.proofs.Small.{front}
+use Rattle.core_engine.proofs.Making.{queued_placed}
 
 -- Of no update there is nothing to show.
 pub none_known : (ms : List Rule) (v : Kept) (rs : List QueuedUpdate) (k : Known) → k.update ≡ 0 → IsKnown ms v rs k

@@ -26,6 +26,7 @@ use Rattle.def_steps.specs.Attempts.{Question}
 use Rattle.def_steps.specs.Chase.{caused_chase}
 use Rattle.def_steps.specs.Questions.{fits}
 use Rattle.set_versions.specs.Standing.{Kept}
+use Rattle.def_language.specs.Sessions.{RelationSchema}
 use Rattle.core_engine.specs.Answered.{TellsAnswer, AnswersTo}
 use Rattle.core_engine.specs.Follows.{Follows, ground_with, AreSame}
 use Rattle.core_engine.specs.Kept.{IsKept}
@@ -34,7 +35,8 @@ use Rattle.core_engine.specs.States.{State, numbered_at, question_at, standing_a
 use Rattle.core_engine.proofs.Delivering.{from_same, put_follows, set_there}
 use Rattle.core_engine.proofs.Entering.{standing_there}
 use Rattle.core_engine.proofs.Following.{there}
-use Rattle.core_engine.proofs.Making.{both_true, placed_within}
+use Rattle.core_engine.proofs.Small.{both_true}
+use Rattle.core_engine.proofs.Making.{placed_within}
 use Rattle.core_engine.proofs.Telling.{there_is, number_there}
 
 -- ---- which choices fit
@@ -108,7 +110,7 @@ answered_if M s us c k (Some u) paused fits =
     let asked : question_of M s (committed M us) (suc k) u ≡ M.question u.state = ap (λ b. if b then M.question u.state else None) paused in
     ap (λ b. Some b) (both_true (is_paused (standing M s (committed M us) (suc k) u)) (fits_question M (M.question u.state) c) paused (ap (λ q. fits_question M q c) (sym asked) ∙ fits))
 
-module _ (g : Ground) (v : Kept) (rs : List QueuedUpdate) (es : List Entry) (s : State) (kept : IsKept g v rs (map entry_of es)) (same : record { over = g; history = map entry_of es } ≡ s) (n : ℕ) (paused : is_paused_in (standing_at s n) ≡ true) (i : ℕ) (e : suc i ≡ n) (qs : List QueuedUpdate) (slice : qs ≡ rs) where
+module _ {R : List RelationSchema} (g : Ground) (v : Kept) (rs : List QueuedUpdate) (es : List Entry) (s : State) (kept : IsKept g v rs (map entry_of es)) (same : record { over = g; history = map entry_of es; relations = R } ≡ s) (n : ℕ) (paused : is_paused_in (standing_at s n) ≡ true) (i : ℕ) (e : suc i ≡ n) (qs : List QueuedUpdate) (slice : qs ≡ rs) where
   pub paused_within : i < length qs
   paused_within =
       let x = stood (standing_at s n) paused in

@@ -84,7 +84,7 @@ made_once old new e r d h f k made some sorted legal =
     let g = old.over in
     let next : step_or_deliver (machine g) (lowest_ready_at old) (lowest_deliverable_at old) ≡ Some e = (λ i. step_or_deliver (machine g) (h i) (f i)) ∙ k in
     let turn : turned g old.history ≡ Some new.history = ap (option_and_then (grown g old.history)) next ∙ made.grows in
-    record { over = made.over; history = turn; less = (turn_law g old.history new.history some sorted legal turn).less }
+    record { over = made.over; history = turn; relations = made.relations; less = (turn_law g old.history new.history some sorted legal turn).less }
 
 -- A step of the lowest ready update is a turn.
 pub step_turns : (old new : State) (i : ℕ) → lowest_ready_at old ≡ Some i → HasMade old (Steps i) new → 1 ≤ old.over.budget → IsRepository old.over.base → IsLegalOver old.over old.history → HasTurnedOnce old new
@@ -102,6 +102,7 @@ turned_on a b c t u =
       turns = suc t.turns;
       over = u.over ∙ t.over;
       history = turns_more a.over t.turns a.history b.history c.history t.history (ap (λ (g : Ground). turned g b.history) (sym t.over) ∙ u.history);
+      relations = u.relations ∙ t.relations;
     }
 
 -- Less work is left after it.

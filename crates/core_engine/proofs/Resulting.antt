@@ -4,17 +4,23 @@ use Rattle.std.specs.Prelude.{Result, Ok, Err, IfOk, OnOk}
 use Rattle.def_machine.specs.Bounds.{admissions_in}
 use Rattle.def_machine.specs.Histories.{event_of}
 use Rattle.def_machine.specs.Serial.{first_stop}
-use Rattle.def_machine.specs.Updates.{Settings, Update}
+use Rattle.def_machine.specs.Updates.{Settings, Update, below, committed}
 use Rattle.def_machine.proofs.Theorem.{history_law}
 use Rattle.def_chase.specs.Mappings.{Rule}
 use Rattle.def_chase.specs.Repository.{IsRepository}
-use Rattle.def_chase.specs.Values.{Fact}
+use Rattle.def_chase.specs.Values.{Fact, outer}
+use Rattle.base_types.specs.Contents.{facts_of}
+use Rattle.base_types.specs.Listed.{Listed}
+use Rattle.base_types.specs.declared.tuples.Tuple.{Tuple}
+use Rattle.core_laws.proofs.Growing.{live_is_serial}
+use Rattle.def_steps.specs.Serial.{SerialResult, answered}
+use Rattle.core_engine.specs.Lives.{CameOf, serially_left}
 use Rattle.def_steps.specs.Chase.{caused}
 use Rattle.def_steps.proofs.ChaseLaws.{chase_laws}
 use Rattle.def_history.specs.AnyOrder.{tells}
 use Rattle.def_history.specs.Cores.{Ground, machine, session_over, entries_over, updates_after, IsLegalOver}
 use Rattle.def_history.specs.PlainEntries.{PlainEntry}
-use Rattle.def_language.specs.Sessions.{SessionData}
+use Rattle.def_language.specs.Sessions.{RelationSchema, SessionData}
 use Rattle.def_language.specs.Validity.{IsSession}
 use Rattle.lang_session.specs.Base.{base_violation}
 use Rattle.chase_update.specs.Results.{result_in}
@@ -22,7 +28,7 @@ use Rattle.chase_update.specs.declared.results.SessionResult.{SessionResult}
 use Rattle.run_serial.specs.Meanings.{IsSerialRun}
 use Rattle.core_queue.specs.declared.updates.QueuedUpdate.{QueuedUpdate}
 use Rattle.set_versions.specs.Standing.{Kept}
-use Rattle.core_result.specs.Told.{Tells, AreVersionsOf}
+use Rattle.core_result.specs.Told.{AreLeft, Tells, AreVersionsOf}
 use Rattle.core_laws.specs.Turns.{after_turns}
 use Rattle.core_laws.specs.Laws.{AreRecorded, IsAdmitted, over}
 use Rattle.core_laws.proofs.Turning.{drained_law}
@@ -36,19 +42,31 @@ versions_of : (g : Ground) (v : Kept) (rs : List QueuedUpdate) (H : List PlainEn
 versions_of g v rs H k = record { sorted = k.sorted; stand = k.versions }
 
 -- What is told of the queue is told of the updates of the history.
-tells_of : (g : Ground) (v : Kept) (rs : List QueuedUpdate) (H : List PlainEntry) (s : State) (r : SessionResult) → IsKept g v rs H → record { over = g; history = H } ≡ s → Tells g.rules g.budget g.base rs r → IsResultOf s r
+tells_of : {R : List RelationSchema} (g : Ground) (v : Kept) (rs : List QueuedUpdate) (H : List PlainEntry) (s : State) (r : SessionResult) → IsKept g v rs H → record { over = g; history = H; relations = R } ≡ s → Tells g.rules g.budget g.base rs r → IsResultOf s r
 tells_of g v rs H s r k same t =
     subst (λ (x : State). IsResultOf x r) same
     (t (session_over g) refl
     ∙ ap (λ (us : List (Update (machine g))). result_in (tells g.rules g.budget (session_over g) us (first_stop (machine g) 1 us))) (sym k.left.leaves))
 
 -- So it is of what lies in the core.
-pub result_told : (g : Ground) (v : Kept) (rs : List QueuedUpdate) (H : List PlainEntry) (s : State) (qs : List QueuedUpdate) (r : SessionResult) → IsKept g v rs H → record { over = g; history = H } ≡ s → qs ≡ rs
+pub result_told : {R : List RelationSchema} (g : Ground) (v : Kept) (rs : List QueuedUpdate) (H : List PlainEntry) (s : State) (qs : List QueuedUpdate) (r : SessionResult) → IsKept g v rs H → record { over = g; history = H; relations = R } ≡ s → qs ≡ rs
     → ((ms : List Rule) (B : ℕ) (D : List Fact) → AreVersionsOf ms B D qs v → Tells ms B D qs r) → IsResultOf s r
 result_told g v rs H s qs r k same e t =
     tells_of g v rs H s r k same
     (subst (λ (xs : List QueuedUpdate). Tells g.rules g.budget g.base xs r) e
     (t g.rules g.budget g.base (subst (λ (xs : List QueuedUpdate). AreVersionsOf g.rules g.budget g.base xs v) (sym e) (versions_of g v rs H k))))
+
+-- If a core's history came of a session, what is left of the queue is what the serial machine leaves of the committed updates.
+pub left_serially : {R : List RelationSchema} (g : Ground) (v : Kept) (rs : List QueuedUpdate) (H : List PlainEntry) (s : State) (qs : List QueuedUpdate) (ts : Listed Tuple) → CameOf R g → IsKept g v rs H → record { over = g; history = H; relations = R } ≡ s → qs ≡ rs
+    → ((ms : List Rule) (B : ℕ) (D : List Fact) → AreVersionsOf ms B D qs v → AreLeft ms B D qs ts) → facts_of ts ≡ serially_left s
+left_serially g v rs H s qs ts came k same e t =
+    let left : AreLeft g.rules g.budget g.base rs ts =
+    subst (λ (xs : List QueuedUpdate). AreLeft g.rules g.budget g.base xs ts) e
+    (t g.rules g.budget g.base (subst (λ (xs : List QueuedUpdate). AreVersionsOf g.rules g.budget g.base xs v) (sym e) (versions_of g v rs H k))) in
+    let after : facts_of ts ≡ map outer (answered (below (machine g) g.base (updates_after g H) (committed (machine g) (updates_after g H)))) =
+    left ∙ ap (λ (ws : List (Update (machine g))). map outer (answered (below (machine g) g.base ws (committed (machine g) ws)))) (sym k.left.leaves) in
+    after ∙ sym (ap (λ (r : SerialResult). r.repository) (live_is_serial came.session g H came.of k.left.legal).committed)
+    ∙ ap serially_left same
 
 -- ---- a core that was opened
 
@@ -79,8 +97,8 @@ drained_serially s budget c n a b r valid meets count e some sorted legal t quie
     let g = over s budget c in
     let H = admissions_from 1 n in
     let over : b.over ≡ g = t.over ∙ ap (λ (x : State). x.over) e in
-    let last : State = record { over = g; history = b.history } in
-    let same : b ≡ last = λ i. record { over = over i; history = b.history } in
+    let last : State = record { over = g; history = b.history; relations = b.relations } in
+    let same : b ≡ last = λ i. record { over = over i; history = b.history; relations = b.relations } in
     let some_there : 1 ≤ budget = subst (λ (x : State). 1 ≤ x.over.budget) e some in
     let sorted_there : IsRepository s.base = subst (λ (x : State). IsRepository x.over.base) e sorted in
     let legal_there : IsLegalOver g H = subst (λ (x : State). IsLegalOver x.over x.history) e legal in

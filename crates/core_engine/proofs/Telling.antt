@@ -20,6 +20,7 @@ use Rattle.core_queue.specs.Updates.{HasStanding, HasQuestion}
 use Rattle.core_queue.specs.Order.{HasCommitted, IsLowestReady, IsLowestDeliverable, IsLowestBesides, IsNextDeliverable, IsQuiet, only}
 use Rattle.core_queue.specs.declared.updates.QueuedUpdate.{QueuedUpdate}
 use Rattle.def_steps.specs.Chase.{caused_chase}
+use Rattle.def_language.specs.Sessions.{RelationSchema}
 use Rattle.core_engine.specs.States.{State, updates_at, numbered_at, committed_at, standing_at, question_at, has_waiting, lowest_ready_at, lowest_ready_besides_of, lowest_ready_besides_at, lowest_deliverable_at, next_deliverable_at, is_quiet_at}
 use Rattle.core_engine.specs.Told.{HasStandingAt, HasQuestionAt, HasWaitingAt}
 use Rattle.core_engine.proofs.Following.{there, stands_at, mapped_long}
@@ -101,7 +102,7 @@ none_waits rs n e ms B =
 
 -- ---- a core
 
-module _ (g : Ground) (H : List PlainEntry) (rs : List QueuedUpdate) (s : State) (left : Leave g H (updates_of g.rules g.budget rs)) (same : record { over = g; history = H } ≡ s) where
+module _ {R : List RelationSchema} (g : Ground) (H : List PlainEntry) (rs : List QueuedUpdate) (s : State) (left : Leave g H (updates_of g.rules g.budget rs)) (same : record { over = g; history = H; relations = R } ≡ s) where
   pub count_told : length rs ≡ length (updates_at s)
   count_told = sym (mapped_long (update_of g.rules g.budget) rs) ∙ sym (ap (λ us. length us) left.leaves) ∙ ap (λ t. length (updates_at t)) same
 

@@ -24,7 +24,7 @@ use Rattle.core_engine.specs.Kept.{IsKept}
 use Rattle.core_engine.specs.Known.{IsKnown}
 use Rattle.core_engine.specs.declared.known.Known.{Known}
 use Rattle.core_engine.proofs.Following.{marks_for, marked_so}
-use Rattle.core_engine.proofs.Making.{front}
+use Rattle.core_engine.proofs.Small.{front}
 use Rattle.core_engine.proofs.Marking.{none_known}
 
 -- A restart leaves nothing read.
@@ -110,3 +110,7 @@ pub as_before : (g : Ground) (v : Kept) (rs rs' : List QueuedUpdate) (H : List P
     → IsKept g v rs' H × CommitsAtLeast rs' least × ReadsAtMost rs' most × UnreadyUpTo rs' unready × IsKnown g.rules v rs' k
 as_before g v rs rs' H least most unready k e h =
     subst (λ (xs : List QueuedUpdate). IsKept g v xs H × CommitsAtLeast xs least × ReadsAtMost xs most × UnreadyUpTo xs unready × IsKnown g.rules v xs k) (sym e) h
+
+-- Besides, what it is over came of its session.
+pub with_origin : {A B C D E F : Type 0} (x : A × B × C × D × E) (came : F) → A × B × C × D × E × F
+with_origin x came = (x.0, x.1, x.2, x.3, x.4, came)

@@ -8,11 +8,13 @@ pub record HasTurned (old new : State) : Type 0 where
   pub turns : ℕ
   pub over : new.over ≡ old.over
   pub history : after_turns old.over turns old.history ≡ Some new.history
+  pub relations : new.relations ≡ old.relations
 
 -- One turn was made, which lowers the work that is left.
 pub record HasTurnedOnce (old new : State) : Type 0 where
   pub over : new.over ≡ old.over
   pub history : turned old.over old.history ≡ Some new.history
+  pub relations : new.relations ≡ old.relations
   pub less : suc (work_after old.over new.history) ≤ work_after old.over old.history
 
 -- The core is quiet, and nothing was done.

@@ -10,10 +10,12 @@ use Rattle.core_engine.specs.declared.refusals.StepRefusal.TheVariants as step
 use Rattle.core_engine.specs.declared.refusals.DeliverRefusal.{DeliverRefusal}
 use Rattle.core_engine.specs.declared.refusals.DeliverRefusal.TheVariants as deliver
 
--- The event was allowed: the history has its entry after the others, and is over the same as before.
+-- The event was allowed: the history has its entry after the others, is over the same as before, and further updates have to fit
+-- the same relations.
 pub record HasMade (old : State) (e : Event (machine old.over)) (new : State) : Type 0 where
   pub grows : grown old.over old.history e ≡ Some new.history
   pub over : new.over ≡ old.over
+  pub relations : new.relations ≡ old.relations
 
 -- The answer to a step of an update with this standing.
 abbrev pub AnswersStep : Option Standing → Result ℕ StepRefusal → Type 0

@@ -17,3 +17,4 @@ pub mod Answered
 pub mod Withdrawals
 pub mod Admissions
 pub mod Lives
+pub mod Openings

@@ -9,7 +9,6 @@ use Rattle.def_chase.specs.Updates.{Choice, Operation}
 use Rattle.base_types.specs.declared.updates.Choice.{Choice as ChoiceOfProgram}
 use Rattle.base_types.specs.declared.updates.Update.{Update}
 use Rattle.lang_session.specs.Admissible.{admits}
-use Rattle.def_language.specs.Sessions.{RelationSchema}
 use Rattle.core_engine.specs.States.{State, question_at, updates_at}
 use Rattle.core_engine.specs.declared.refusals.AdmitRefusal.{AdmitRefusal}
 use Rattle.core_engine.specs.declared.refusals.AdmitRefusal.TheVariants as admit
@@ -66,21 +65,24 @@ AnswersWithdrawal s c n (Err withdraw.Memory) = is_live_in s c n ≡ true
 
 -- ---- admissions
 
--- The operation may stand after the updates of the state, over these relations.
-abbrev pub admits_at : State → List RelationSchema → Operation → Bool
-admits_at s relations op = admits relations (length (updates_at s)) op
+-- The operation may stand after the updates of the state: it fits the relations and names nulls of these updates alone.
+abbrev pub admits_at : State → Operation → Bool
+admits_at s op = admits s.relations (length (updates_at s)) op
 
--- One more update was handed in and admitted: the history is over it too, and has its entry after the others.
+-- One more update was handed in, which fits, and was admitted: the history is over it too, and has its entry after the others.
 pub record HasAdmitted (old : State) (op : Operation) (new : State) : Type 0 where
+  pub fits : admits_at old op ≡ true
   pub over : new.over ≡ handed old.over op
   pub grows : grown (handed old.over op) old.history Admits ≡ Some new.history
+  pub relations : new.relations ≡ old.relations
 
--- Why one more update was refused, if there are n updates.
-abbrev pub RefusesAdmission : ℕ → AdmitRefusal → Type 0
-RefusesAdmission n admit.Full = 1000 ≤ n
-RefusesAdmission n admit.Memory = n < 1000
+-- Why one more update was refused, if there are n updates; the flag says whether it fits.
+abbrev pub RefusesAdmission : ℕ → Bool → AdmitRefusal → Type 0
+RefusesAdmission n fits admit.Full = 1000 ≤ n
+RefusesAdmission n fits admit.Unfit = (n < 1000) × (fits ≡ false)
+RefusesAdmission n fits admit.Memory = (n < 1000) × (fits ≡ true)
 
--- The answer to the admission of one more update, if there are n updates.
-abbrev pub AnswersAdmission : ℕ → Result ℕ (AdmitRefusal × Update) → Type 0
-AnswersAdmission n (Ok number) = (number ≡ suc n) × (n < 1000)
-AnswersAdmission n (Err refused) = RefusesAdmission n refused.0
+-- The answer to the admission of one more update, if there are n updates; the flag says whether it fits.
+abbrev pub AnswersAdmission : ℕ → Bool → Result ℕ (AdmitRefusal × Update) → Type 0
+AnswersAdmission n fits (Ok number) = (number ≡ suc n) × (n < 1000) × (fits ≡ true)
+AnswersAdmission n fits (Err refused) = RefusesAdmission n fits refused.0

@@ -8,7 +8,9 @@ use Rattle.chase_query.specs.Meanings.{Read}
 use Rattle.def_steps.specs.Chase.{caused_chase}
 use Rattle.chase_update.specs.Courses.{State as ProgramState}
 use Rattle.chase_plan.specs.Planned.{at_rest, next_attempt, next_reads}
-use Rattle.core_engine.specs.States.{State, updates_at}
+use Rattle.def_history.specs.Cores.{Ground, updates_after}
+use Rattle.def_history.specs.PlainEntries.{PlainEntry}
+use Rattle.core_engine.specs.States.{State}
 
 -- The next step of an update: the update's number, the attempt after the step, and its reads.
 pub record PlanMeant : Type 0 where
@@ -31,6 +33,9 @@ abbrev pub IsStepAmong : (ms : List Rule) (B : ℕ) → List Fact → List (Upda
 IsStepAmong ms B D us zero p = ⊥
 IsStepAmong ms B D us (suc k) p = IsSomeThat (λ u. IsStepOver ms B (below (caused_chase ms B) D us k) u p) (slice_get us k)
 
--- The plan is the next step of its update at the state.
+-- The plan is the next step of its update after these entries, and at the state.
+abbrev pub IsStepAfter : Ground → List PlainEntry → PlanMeant → Type 0
+IsStepAfter g H p = IsStepAmong g.rules g.budget g.base (updates_after g H) p.update p
+
 abbrev pub IsStepAt : State → PlanMeant → Type 0
-IsStepAt s p = IsStepAmong s.over.rules s.over.budget s.over.base (updates_at s) p.update p
+IsStepAt s p = IsStepAfter s.over s.history p

@@ -7,15 +7,16 @@ use Rattle.def_machine.specs.Cascade.{has_number}
 use Rattle.def_steps.specs.Attempts.{Question}
 use Rattle.def_history.specs.PlainEntries.{PlainEntry, WasAdmitted}
 use Rattle.def_history.specs.Cores.{Ground, machine, updates_after}
-use Rattle.def_language.specs.Sessions.{SessionData}
+use Rattle.def_language.specs.Sessions.{RelationSchema, SessionData}
 use Rattle.def_language.specs.Checks.{rules_of}
 use Rattle.lang_session.specs.Meanings.{requests_in}
 use Rattle.core_queue.specs.Order.{only}
 
--- What its history is over, and the entries of that history.
+-- What its history is over, the entries of that history, and the relations that each further update has to fit.
 pub record State : Type 0 where
   pub over : Ground
   pub history : List PlainEntry
+  pub relations : List RelationSchema
 
 -- What the history of a session is over, with this budget of steps for each attempt and these settings.
 abbrev pub ground_of : SessionData → ℕ → Settings → Ground
@@ -29,7 +30,7 @@ admissions_from n (suc k) = WasAdmitted n ∷ admissions_from (suc n) k
 
 -- The core over the session to which all its updates were admitted.
 abbrev pub opened : SessionData → ℕ → Settings → ℕ → State
-opened s budget c count = record { over = ground_of s budget c; history = admissions_from 1 count }
+opened s budget c count = record { over = ground_of s budget c; history = admissions_from 1 count; relations = s.relations }
 
 -- The updates that the history left.
 abbrev pub updates_at : (s : State) → List (Update (machine s.over))
@@ -67,9 +68,12 @@ lowest_deliverable_at s = standings.lowest_deliverable (machine s.over) s.over.s
 abbrev pub next_deliverable_at : State → Option ℕ
 next_deliverable_at s = only (suc (committed_at s)) (lowest_deliverable_at s)
 
--- Nothing is ready, and nothing is deliverable.
+-- After these entries nothing is ready, and nothing is deliverable.
+abbrev pub is_quiet_after : Ground → List PlainEntry → Bool
+is_quiet_after g H = standings.is_quiet (machine g) g.settings (updates_after g H)
+
 abbrev pub is_quiet_at : State → Bool
-is_quiet_at s = standings.is_quiet (machine s.over) s.over.settings (updates_at s)
+is_quiet_at s = is_quiet_after s.over s.history
 
 -- The lowest of these updates that is ready and has none of these numbers.
 abbrev pub lowest_ready_besides_of : (g : Ground) → List (Update (machine g)) → List ℕ → Option ℕ

@@ -3,19 +3,16 @@ ghost use Rattle.std.specs.Prelude.{◌≡◌, ◌≤◌, length, map, true, Som
 ghost use Rattle.std.specs.Option.{option_map, option_copied};
 ghost use Rattle.base_types.specs.Meanings.{rule_of};
 ghost use Rattle.chase_question.specs.Inquiries.{inquiry_of, inquiry_in};
+ghost use Rattle.core_laws.specs.Live.{IsSerialOver};
 ghost use Rattle.def_history.specs.Cores.{IsLegalOver};
 ghost use Rattle.def_machine.specs.Effects.{Steps};
 ghost use Rattle.def_machine.specs.Standings.{Ready};
 ghost use Rattle.core_entries.specs.Meanings.{standing_of, entry_of};
 ghost use Rattle.def_chase.specs.Repository.{IsRepository};
-ghost use Rattle.def_language.specs.Validity.{IsSession};
-ghost use Rattle.lang_session.specs.Meanings.{session_of};
-ghost use Rattle.core_queue.specs.Settings.{settings_of};
-ghost use Rattle.core_engine.specs.States.{opened, updates_at, committed_at, standing_at, question_at, has_waiting as has_waiting_def, lowest_ready_at, lowest_ready_besides_at, lowest_deliverable_at, next_deliverable_at, is_quiet_at};
+ghost use Rattle.core_engine.specs.States.{updates_at, committed_at, standing_at, question_at, has_waiting as has_waiting_def, lowest_ready_at, lowest_ready_besides_at, lowest_deliverable_at, next_deliverable_at, is_quiet_at};
 ghost use Rattle.core_engine.specs.Events.{HasMade, AnswersStep};
 ghost use Rattle.core_engine.specs.Planned.{IsStepAt};
 
-use crate::admitting::{admissions, admitted};
 use crate::known::Known;
 use crate::plans::{Plan, Snapshot, plan_at, snapshot_at};
 use crate::putting::step_at;
@@ -32,16 +29,17 @@ use core_queue::{
     QueuedUpdate, Settings, committed_from, is_quiet, lowest_deliverable, lowest_ready,
     lowest_ready_besides, next_deliverable, reads_at_most, unready_from,
 };
-use lang_session::{Session, SessionUpdates};
-use run_serial::{base_of, mappings_of};
-use set_facts::IndexedFacts;
+use lang_schema::Schema;
+use lang_session::SessionUpdates;
 use set_versions::Versions;
 use std::alloc::Global;
 use std::marker::Model;
 
-/// The updates of a session with all that was done to them. Contracts see what the history is over, and its entries.
+/// The updates of a session with all that was done to them. Contracts see what the history is over, its entries, and the relations
+/// of the session.
 #[derive(Drop)]
 pub struct Core<'s> {
+    pub(crate) schema: &'s Schema,
     pub(crate) mappings: TouchedMappings<'s>,
     pub(crate) budget: Budget,
     pub(crate) settings: Settings,
@@ -69,6 +67,7 @@ impl<'s> Model for Core<'s> {
     ghost use Rattle.core_queue.specs.Order.{CommitsAtLeast, ReadsAtMost, UnreadyUpTo};
     ghost use Rattle.core_engine.specs.Kept.{ground_by, IsKept};
     ghost use Rattle.core_engine.specs.Known.{IsKnown};
+    ghost use Rattle.core_engine.specs.Lives.{CameOf};
 
     ghost Value = { State };
 
@@ -77,6 +76,7 @@ impl<'s> Model for Core<'s> {
           over = ground_by c.mappings c.budget (settings_of c.settings) c.base.now
               c.updates.now c.later;
           history = map entry_of c.history.items;
+          relations = c.schema.now;
         } };
 
     ghost invariant = { λ c.
@@ -84,66 +84,12 @@ impl<'s> Model for Core<'s> {
         c.later) c.versions c.queue.items (map entry_of c.history.items)
         × CommitsAtLeast c.queue.items c.least × ReadsAtMost c.queue.items c.most
         × UnreadyUpTo c.queue.items c.unready
-        × IsKnown c.mappings c.versions c.queue.items c.known };
+        × IsKnown c.mappings c.versions c.queue.items c.known
+        × CameOf c.schema.now (ground_by c.mappings c.budget (settings_of c.settings) c.base.now
+        c.updates.now c.later) };
 }
 
 impl<'s> Core<'s> {
-    /// The core of a session to which all its updates are admitted, each with its recorded answers.
-    pub fn open(
-        alloc: Global,
-        session: &'s Session,
-        settings: Settings,
-        budget: Budget,
-    ) -> Result<Core<'s>, Memory>
-        requires valid { IsSession (session_of session.now) }
-        requires retries { settings.retries ≤ 4 }
-        ensures opened { IfOk result (λ core. core ≡ opened (session_of session.now) budget
-            (settings_of settings) (length session.now.updates.items)) }
-    {
-        let base = base_of(alloc, session)?;
-        Core::open_over(alloc, session, base, settings, budget)
-    }
-
-    /// The core of a session over its base, which is handed over as a set of tuples (`base_of`). All its updates are admitted,
-    /// each with its recorded answers.
-    pub fn open_over(
-        alloc: Global,
-        session: &'s Session,
-        base: IndexedFacts,
-        settings: Settings,
-        budget: Budget,
-    ) -> Result<Core<'s>, Memory>
-        requires valid { IsSession (session_of session.now) }
-        requires retries { settings.retries ≤ 4 }
-        requires base { base ≡ (session_of session.now).base }
-        ensures opened { IfOk result (λ core. core ≡ opened (session_of session.now) budget
-            (settings_of settings) (length session.now.updates.items)) }
-    {
-        budget.is_within();
-        let versions = Versions::of(alloc, base)?;
-        let updates = session.updates.as_slice();
-        let queue = admitted(alloc, updates)?;
-        let history = admissions(alloc, updates)?;
-        let mappings = TouchedMappings::of(alloc, mappings_of(session))?;
-        let later = UpdateList::new(alloc);
-        let known = Known::none(alloc)?;
-        Ok(Core {
-            mappings,
-            budget,
-            settings,
-            base: &session.base,
-            updates: &session.updates,
-            later,
-            versions,
-            queue,
-            history,
-            least: 0,
-            most: u32::MAX,
-            unready: 0,
-            known,
-        })
-    }
-
     /// How many updates there are.
     pub fn count(&self) -> u32
         ensures count { result ≡ length (updates_at self.now) }
@@ -236,9 +182,12 @@ impl<'s> Core<'s> {
         self.mappings.list()
     }
 
-    /// The function does nothing: its contract says what is always true of a core. Its history is legal over what it is over.
+    /// The function does nothing: its contract says what is always true of a core. Its history is legal over what it is over, and
+    /// what it commits is what the serial machine makes of the committed updates alone, taken whole, in number order, with the
+    /// answers delivered to them.
     pub fn is_legal(&self)
         ensures legal { IsLegalOver self.now.over self.now.history }
+        ensures serial { IsSerialOver self.now.over self.now.history }
         ensures sorted { IsRepository self.now.over.base }
         ensures budget { 1 ≤ self.now.over.budget }
     {

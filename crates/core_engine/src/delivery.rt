@@ -48,7 +48,13 @@ impl<'s> Core<'s> {
         self.most = u32::MAX;
         self.unready = 0;
         self.known.update = 0;
-        deliver_at(self.settings, &mut self.queue, &mut self.history, place)?;
+        deliver_at(
+            self.settings,
+            least,
+            &mut self.queue,
+            &mut self.history,
+            place,
+        )?;
         self.least = least;
         self.most = most;
         self.unready = unready;

@@ -17,6 +17,7 @@ mod delivery;
 mod draining;
 mod known;
 mod lives;
+mod openings;
 mod plans;
 mod putting;
 mod refusals;
@@ -31,6 +32,6 @@ pub use crate::cores::Core;
 pub use crate::lives::live_cores_are_serial;
 pub use crate::plans::{Plan, Snapshot};
 pub use crate::refusals::{
-    AdmitRefusal, AnswerRefusal, DeliverRefusal, StepRefusal, WithdrawRefusal,
+    AdmitRefusal, AnswerRefusal, DeliverRefusal, OpenRefusal, StepRefusal, WithdrawRefusal,
 };
 pub use crate::results::drained;

@@ -3,9 +3,9 @@
 //! The definitions stand in `specs/Lives.antt`. The function is a law, whose contract is the statement and whose body is empty.
 ghost use Rattle.core_engine.specs.Lives.{LiveCoresAreSerial};
 
-/// A core is opened on a session whose base violates no mapping. Any number of steps, deliveries, answers, withdrawals, and
-/// admissions that `Core::admits` accepts over the session's own relations change it. What it commits is what the serial
-/// machine makes of the committed updates alone, taken whole, in number order, with the answers delivered to them.
+/// A core is opened on a session, which it refuses if its base violates a mapping. Any number of steps, deliveries, answers,
+/// withdrawals and admissions change it. What it commits is what the serial machine makes of the committed updates alone, taken
+/// whole, in number order, with the answers delivered to them.
 pub fn live_cores_are_serial()
     ensures { LiveCoresAreSerial }
 {}

@@ -1,6 +1,27 @@
 //! Why a call of a core changed nothing.
+ghost use Rattle.std.specs.Prelude.{◌≡◌};
+ghost use Rattle.core_engine.specs.declared.refusals.OpenRefusal.TheVariants.{Memory as WantOfMemory};
 
+use base_types::Memory;
 use core_entries::Standing;
+use run_base::Violated;
+
+/// Why no core was opened on a session.
+#[derive(Drop)]
+pub enum OpenRefusal<'s> {
+    /// The base of the session violates this mapping.
+    Violates(Violated<'s>),
+    /// There was no memory for it.
+    Memory,
+}
+
+impl<'s> From<Memory> for OpenRefusal<'s> {
+    ghost from_gives = { λ _ refusal. refusal ≡ WantOfMemory };
+
+    fn from(_: Memory) -> OpenRefusal<'s> {
+        OpenRefusal::Memory
+    }
+}
 
 /// Why a step was not made.
 #[derive(Clone, Copy, Debug)]
@@ -57,6 +78,8 @@ pub enum WithdrawRefusal {
 pub enum AdmitRefusal {
     /// There are 1,000 updates.
     Full,
+    /// It does not fit the relations of the session, or names a null of no lower update, or puts a mapping in force.
+    Unfit,
     /// There was no memory for it.
     Memory,
 }

@@ -4,17 +4,20 @@ ghost use Rattle.def_language.specs.Validity.{IsSession};
 ghost use Rattle.lang_session.specs.Base.{base_violation};
 ghost use Rattle.lang_session.specs.Meanings.{session_of};
 ghost use Rattle.run_serial.specs.Meanings.{IsSerialRun};
+ghost use Rattle.base_types.specs.Contents.{facts_of};
 ghost use Rattle.core_engine.specs.Drained.{HasTurned};
+ghost use Rattle.core_engine.specs.Lives.{serially_left};
 ghost use Rattle.core_engine.specs.Results.{IsResultOf};
 ghost use Rattle.core_engine.specs.States.{is_quiet_at};
 
 use crate::cores::Core;
 use base_limits::Budget;
-use base_types::Memory;
+use base_types::{Memory, TupleList};
 use chase_update::SessionResult;
 use core_queue::Settings;
-use core_result::told;
+use core_result::{left, told};
 use lang_session::Session;
+use run_serial::base_of;
 use std::alloc::Global;
 
 impl<'s> Core<'s> {
@@ -25,6 +28,15 @@ impl<'s> Core<'s> {
     {
         let told = told(alloc, &self.queue, &self.versions)?;
         Ok(told)
+    }
+
+    /// The repository that the committed updates left, in order, with nulls in their outer forms. It is what the serial machine
+    /// leaves that takes these updates alone, each whole, in number order, with the answers delivered to it.
+    pub fn repository(&self, alloc: Global) -> Result<TupleList, Memory>
+        ensures serial { IfOk result (λ tuples. facts_of tuples ≡ serially_left self.now) }
+    {
+        let tuples = left(alloc, &self.queue, &self.versions)?;
+        Ok(tuples)
     }
 }
 
@@ -40,7 +52,8 @@ pub fn drained(
     requires retries { settings.retries ≤ 4 }
     ensures told { IfOk result (IsSerialRun budget (session_of session.now)) }
 {
-    let mut core = Core::open(alloc, session, settings, budget)?;
+    let base = base_of(alloc, session)?;
+    let mut core = Core::open_met(alloc, session, base, settings, budget)?;
     core.is_legal();
     came_to(alloc, &mut core)
 }

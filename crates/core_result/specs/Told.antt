@@ -8,7 +8,7 @@ use Rattle.base_types.specs.Listed.{Listed}
 use Rattle.base_types.specs.declared.tuples.Tuple.{Tuple}
 use Rattle.def_machine.specs.Serial.{Finish, Stop, committed_finishes, first_stop}
 use Rattle.def_machine.specs.Standings.{Lack}
-use Rattle.def_machine.specs.Updates.{Update, Session, trail}
+use Rattle.def_machine.specs.Updates.{Update, Session, below, committed, trail}
 use Rattle.def_chase.specs.Mappings.{Rule}
 use Rattle.def_chase.specs.Repository.{IsRepository}
 use Rattle.def_chase.specs.Values.{Fact, outer}
@@ -65,6 +65,11 @@ IsStop rs s = (ms : List Rule) (B : ℕ) → option_map stop_of s ≡ stop_told 
 -- These are the tuples in outer form, without the tuples that say which mappings are in force.
 abbrev pub AreAnswered : List Fact → Listed Tuple → Type 0
 AreAnswered D ts = facts_of ts ≡ map outer (answered D)
+
+-- These are the tuples that the committed ones of the queued updates left over D, in outer form.
+abbrev pub AreLeft : List Rule → ℕ → List Fact → List QueuedUpdate → Listed Tuple → Type 0
+AreLeft ms B D rs ts =
+    facts_of ts ≡ map outer (answered (below (caused_chase ms B) D (updates_of ms B rs) (committed (caused_chase ms B) (updates_of ms B rs))))
 
 -- The versions are of the queued updates over D.
 pub record AreVersionsOf (ms : List Rule) (B : ℕ) (D : List Fact) (rs : List QueuedUpdate) (v : Kept) : Type 0 where

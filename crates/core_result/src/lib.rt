@@ -7,4 +7,4 @@ mod repositories;
 mod results;
 mod stops;
 
-pub use crate::results::told;
+pub use crate::results::{left, told};

@@ -3,12 +3,12 @@ ghost use Rattle.std.specs.Prelude.{ℕ, List, IfOk, ◌-◌, ◌<◌, ◌^◌, 
 ghost use Rattle.def_chase.specs.Mappings.{Rule};
 ghost use Rattle.def_chase.specs.Values.{Fact};
 ghost use Rattle.core_queue.specs.Queues.{AreFrom};
-ghost use Rattle.core_result.specs.Told.{AreVersionsOf, Tells};
+ghost use Rattle.core_result.specs.Told.{AreLeft, AreVersionsOf, Tells};
 
 use crate::finishes::finishes;
 use crate::repositories::repository;
 use crate::stops::stop;
-use base_types::Memory;
+use base_types::{Memory, TupleList};
 use chase_update::SessionResult;
 use core_queue::{QueuedUpdate, committed};
 use set_versions::Versions;
@@ -29,6 +29,16 @@ pub fn told(
     Ok(SessionResult {
         finishes: finishes(alloc, queue)?,
         stop: stop(alloc, queue)?,
-        repository: repository(alloc, versions, committed(queue) + 1)?,
+        repository: left(alloc, queue, versions)?,
     })
+}
+
+/// The repository that the committed updates left, in order, with nulls in their outer forms.
+pub fn left(alloc: Global, queue: &[QueuedUpdate], versions: &Versions) -> Result<TupleList, Memory>
+    requires from { AreFrom 1 queue.now }
+    requires few { length queue.now < 2 ^ 32 - 1 }
+    ensures left { IfOk result (λ tuples. (ms : List Rule) (B : ℕ) (D : List Fact) →
+        AreVersionsOf ms B D queue.now versions.now → AreLeft ms B D queue.now tuples) }
+{
+    repository(alloc, versions, committed(queue) + 1)
 }

@@ -1,7 +1,6 @@
 -- What the line of a command does to a session that curators work on, and the reply to it.
 use Rattle.std.specs.Prelude.{◌≡◌, ℕ, suc, Bool, true, false, List, [], ◌∷◌, ◌++◌, codes, length, map, position, nat_le, nat_lt, Option, Some, None, option_map, if◌then◌else◌}
-use Rattle.lang_session.specs.Admissible.{admits}
-use Rattle.core_engine.specs.LiveCalls.{fits_at, is_withdrawn}
+use Rattle.core_engine.specs.LiveCalls.{admits_at, fits_at, is_withdrawn}
 use Rattle.core_engine.specs.States.{State, committed_at, lowest_deliverable_at, lowest_ready_at, opened, question_at, standing_at, updates_at}
 use Rattle.chase_question.specs.Inquiries.{inquiry_in}
 use Rattle.def_language.specs.Names.{Name, is_one_of, same_name}
@@ -45,7 +44,7 @@ refuses L why = says L (refused_line why)
 abbrev pub made : Live → Ground → List Name → Option (List PlainEntry) → Turn
 made L g names None = says L []
 made L g names (Some H) =
-    record { reply = last_line L.session.relations H; next = record { session = L.session; core = record { over = g; history = H }; labels = names }; last = false }
+    record { reply = last_line L.session.relations H; next = record { session = L.session; core = record { over = g; history = H; relations = L.core.relations }; labels = names }; last = false }
 
 -- an event over the same updates
 abbrev pub event : Live → Option (List PlainEntry) → Turn
@@ -107,7 +106,7 @@ admission L label op = made L (handed L.core.over op) (L.labels ++ label ∷ [])
 abbrev pub update_turn : Live → Name → Operation → Turn
 update_turn L label op =
     if nat_le 1000 (length (updates_at L.core)) then refuses L Full
-    else if admits L.session.relations (length (updates_at L.core)) op then admission L label op
+    else if admits_at L.core op then admission L label op
     else refuses L BadNull
 
 -- the operation, if its fact is known

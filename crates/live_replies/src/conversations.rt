@@ -1,5 +1,6 @@
 //! A session that curators work on, line by line.
-ghost use Rattle.std.specs.Prelude.{◌≡◌, ◌≤◌, true, Some, codes, length, map, IfOk};
+ghost use Rattle.std.specs.Prelude.{◌≡◌, ◌≤◌, true, Some, codes, length, map, IfErr, IfOk};
+ghost use Rattle.core_engine.specs.Openings.{RefusesOpening};
 ghost use Rattle.core_engine.specs.States.{lowest_deliverable_at, lowest_ready_at, updates_at};
 ghost use Rattle.def_language.specs.Names.{firsts, same_name};
 ghost use Rattle.def_language.specs.Sessions.{labels};
@@ -16,7 +17,7 @@ use crate::refusals::{Refusal, refused, words};
 use audit_trace::entry_line;
 use base_limits::Budget;
 use base_types::{Memory, Name, TryCopy};
-use core_engine::Core;
+use core_engine::{Core, OpenRefusal};
 use core_queue::Settings;
 use lang_report::question_lines;
 use lang_schema::Names;
@@ -63,17 +64,18 @@ fn bye(alloc: Global) -> Result<Reply, Memory>
 }
 
 impl<'s> Conversation<'s> {
-    /// The session before the first line: all its updates are admitted.
+    /// The session before the first line: all its updates are admitted. It is refused if its base violates a mapping.
     pub fn open(
         alloc: Global,
         session: &'s Session,
         settings: Settings,
         budget: Budget,
-    ) -> Result<Conversation<'s>, Memory>
+    ) -> Result<Conversation<'s>, OpenRefusal<'s>>
         requires valid { IsSession (session_of session.now) }
         requires retries { settings.retries ≤ 4 }
         ensures begun { IfOk result (λ c. live_of c ≡ begun budget (settings_of settings)
             (session_of session.now)) }
+        ensures refused { IfErr result (RefusesOpening (session_of session.now)) }
     {
         let labels = labels_of(alloc, session.updates.as_slice())?;
         let core = Core::open(alloc, session, settings, budget)?;

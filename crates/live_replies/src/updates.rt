@@ -1,19 +1,18 @@
 //! Updates that are admitted while others go on.
-ghost use Rattle.std.specs.Prelude.{◌≡◌, ◌<◌, false, length, IfOk};
+ghost use Rattle.std.specs.Prelude.{◌≡◌, false, IfOk};
 ghost use Rattle.base_types.specs.Meanings.{operation_of};
-ghost use Rattle.core_engine.specs.States.{updates_at};
 ghost use Rattle.lang_forms.specs.Statements.{operation_of as operation_meant};
 ghost use Rattle.def_language.specs.Names.{is_one_of};
 ghost use Rattle.live_replies.specs.Commands.{AskUpdate};
 ghost use Rattle.live_replies.specs.Known.{known_operation};
 ghost use Rattle.live_replies.specs.Meanings.{IsTold, live_of};
-ghost use Rattle.live_replies.specs.Turns.{admission, command_turn, update_known, update_turn};
+ghost use Rattle.live_replies.specs.Turns.{command_turn, update_known, update_turn};
 
 use crate::conversations::Conversation;
 use crate::operations::known_operation;
 use crate::refusals::{Refusal, refused};
-use base_limits::MOST_UPDATES;
-use base_types::{Memory, Name, Operation, TryCopy, Update};
+use base_types::{Memory, Name, TryCopy, Update};
+use core_engine::AdmitRefusal;
 use lang_forms::RawOperation;
 use std::alloc::Global;
 
@@ -68,22 +67,6 @@ impl<'s> Conversation<'s> {
         ensures { IfOk result (λ text. IsTold (update_turn (live_of self.old) update.label.items
             (operation_of update.operation)) text.items (live_of self.new)) }
     {
-        if self.core.count() >= MOST_UPDATES {
-            return refused(alloc, Refusal::Full);
-        }
-        if !self.core.admits(&self.session.schema, &update) {
-            return refused(alloc, Refusal::Null);
-        }
-        self.admit(alloc, update)
-    }
-
-    // Admits the update, which has a new label.
-    fn admit(&mut self, alloc: Global, update: Update) -> Result<Vec<u8>, Memory>
-        requires new { is_one_of self.old.labels.items update.label.items ≡ false }
-        requires room { length (updates_at self.old.core) < 1000 }
-        ensures { IfOk result (λ text. IsTold (admission (live_of self.old) update.label.items
-            (operation_of update.operation)) text.items (live_of self.new)) }
-    {
         let label = update.label.copy(alloc)?;
         self.labels.reserve()?;
         match self.core.admit(alloc, update) {
@@ -91,7 +74,9 @@ impl<'s> Conversation<'s> {
                 self.labels.note(label.into_vec())?;
                 self.told(alloc)
             }
-            Err(_) => Err(Memory),
+            Err((AdmitRefusal::Full, _)) => refused(alloc, Refusal::Full),
+            Err((AdmitRefusal::Unfit, _)) => refused(alloc, Refusal::Null),
+            Err((AdmitRefusal::Memory, _)) => Err(Memory),
         }
     }
 }

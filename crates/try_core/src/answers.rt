@@ -5,7 +5,7 @@ use chase_question::Question;
 use core_engine::Core;
 use core_entries::{Entry, Standing};
 use lang_report::{question_lines, result_text};
-use lang_schema::Schema;
+use lang_schema::{Schema, print_tuple};
 use lang_session::Session;
 use std::alloc::Global;
 use try_cases::{CaseRefusal, with_entries, with_line};
@@ -65,6 +65,21 @@ pub fn with_counts(alloc: Global, text: Vec<u8>, core: &Core<'_>) -> Result<Vec<
     let rest = if core.is_quiet() { "quiet" } else { "open" };
     let line = format!(in alloc; "committed {committed} of {count}, {rest}")?;
     with_line(text, line.as_str())
+}
+
+/// Adds the tuples of the repository that the committed updates left, each as a line.
+pub fn with_repository(
+    alloc: Global,
+    mut text: Vec<u8>,
+    schema: &Schema,
+    core: &Core<'_>,
+) -> Result<Vec<u8>, CaseRefusal> {
+    let tuples = core.repository(alloc)?;
+    for tuple in tuples.as_slice() {
+        text.extend_from_slice(print_tuple(alloc, schema, tuple, false)?.as_slice())?;
+        text.push(b'\n')?;
+    }
+    Ok(text)
 }
 
 /// Adds the result of the core.

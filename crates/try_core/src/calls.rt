@@ -24,13 +24,14 @@ pub enum Event {
 }
 
 /// A call that asks a core: for the standing of an update, for its question, for the numbers of updates and of committed updates,
-/// or for the core's result.
+/// for the core's result, or for the repository that the committed updates left.
 #[derive(Clone, Copy)]
 pub enum Asked {
     Standing(u32),
     Question(u32),
     Counts,
     Result,
+    Repository,
 }
 
 /// The call that a line spells. An error if the line spells none.
@@ -39,6 +40,7 @@ pub fn read_call(alloc: Global, schema: &Schema, line: &str) -> Result<Call, Cas
         "drain" => return Ok(Call::Drain),
         "counts" => return Ok(Call::Ask(Asked::Counts)),
         "result" => return Ok(Call::Ask(Asked::Result)),
+        "repository" => return Ok(Call::Ask(Asked::Repository)),
         _ => {}
     }
     match line.split_once(' ') {

@@ -21,6 +21,7 @@ pub enum Refusal {
     Committed(u32),
     Withdrawn,
     Full,
+    Unfit,
 }
 
 // Makes a step. The result is None if it was made.
@@ -98,6 +99,7 @@ fn admit(
 fn not_admitted(refusal: AdmitRefusal) -> Result<Option<Refusal>, CaseRefusal> {
     match refusal {
         AdmitRefusal::Full => Ok(Some(Refusal::Full)),
+        AdmitRefusal::Unfit => Ok(Some(Refusal::Unfit)),
         AdmitRefusal::Memory => Err(CaseRefusal::Memory),
     }
 }
@@ -142,6 +144,7 @@ impl fmt::Display for Refusal {
             Refusal::Committed(count) => write!(f, "committed {count}"),
             Refusal::Withdrawn => f.write_str("withdrawn"),
             Refusal::Full => f.write_str("full"),
+            Refusal::Unfit => f.write_str("unfit"),
         }
     }
 }

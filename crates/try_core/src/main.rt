@@ -3,11 +3,12 @@
 //! The input has cases, one after the other. A case is a line `case STEPS RETRIES DEPS`, a session up to its line `end`, calls,
 //! one a line, and the line `done`. The update of number 3 is named `u3`. The calls that may make an event are `step u3`,
 //! `deliver u3`, `answer u3 CHOICE`, `withdraw u3`, `update LABEL CURATOR OPERATION`, which admits one more update, and `drain`;
-//! the calls that ask are `standing u3`, `question u3`, `counts` and `result`. Choices and operations are spelled as in a
-//! session.
+//! the calls that ask are `standing u3`, `question u3`, `counts`, `result` and `repository`. Choices and operations are spelled
+//! as in a session.
 //!
 //! An event is printed as its line of the trace, a drain as the lines of its events, and a refusal as the word `refused` and its
-//! cause. A question, and the result of a core without later updates, are printed as the program `youtopia` prints them.
+//! cause. A question, and the result of a core without later updates, are printed as the program `youtopia` prints them. Of the
+//! repository each tuple is a line.
 #![tactic(auto)]
 
 mod answers;

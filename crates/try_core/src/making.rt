@@ -4,12 +4,13 @@ ghost use Rattle.def_language.specs.Validity.{IsSession};
 ghost use Rattle.lang_session.specs.Meanings.{session_of};
 
 use crate::answers::{
-    with_counts, with_last, with_question, with_refusal, with_result, with_standing,
+    with_counts, with_last, with_question, with_refusal, with_repository, with_result,
+    with_standing,
 };
 use crate::calls::{Asked, Call, Event, read_call};
 use crate::events::make;
 use base_limits::Budget;
-use core_engine::Core;
+use core_engine::{Core, OpenRefusal};
 use core_queue::Settings;
 use lang_session::Session;
 use std::alloc::Global;
@@ -33,8 +34,11 @@ fn told_over(
     requires valid { IsSession (session_of session.now) }
     requires retries { settings.retries ≤ 4 }
 {
-    let mut core = Core::open(alloc, session, settings, budget)?;
-    told_by(alloc, session, &mut core, calls)
+    match Core::open(alloc, session, settings, budget) {
+        Ok(mut core) => told_by(alloc, session, &mut core, calls),
+        Err(OpenRefusal::Violates(_)) => Err(CaseRefusal::Base),
+        Err(OpenRefusal::Memory) => Err(CaseRefusal::Memory),
+    }
 }
 
 // What the calls on the core answer.
@@ -120,5 +124,6 @@ fn told_of(
         Asked::Question(update) => with_question(alloc, text, session, core.question(update)),
         Asked::Counts => with_counts(alloc, text, core),
         Asked::Result => with_result(alloc, text, session, core),
+        Asked::Repository => with_repository(alloc, text, &session.schema, core),
     }
 }

@@ -57,7 +57,8 @@ pub trait Core {
 
     /// The lowest update that an answer can be delivered to, if that delivery must come before any step.
     fn first_waiting(&self) -> Option<u32>
-        ensures lowest { IfSome result (λ u. lowest_waiting (over self.now) (history self.now) ≡ Some u) };
+        ensures lowest { IfSome result (λ u.
+            lowest_waiting (over self.now) (history self.now) ≡ Some u) };
 
     /// Delivers the first of the answers that wait for the update. After an error the history is unchanged.
     fn deliver(&mut self, alloc: Global, update: u32) -> Result<(), Memory>

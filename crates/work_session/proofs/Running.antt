@@ -146,8 +146,8 @@ pub worked_serially : (s : SessionData) (budget : ℕ) (c : Settings) (core : St
 worked_serially s budget c core r some sorted w told =
     let g : Ground = ground_of s budget c in
     let K : List PlainEntry = core.history in
-    let last : State = record { over = g; history = K } in
-    let same : core ≡ last = (λ i. record { over = w.over i; history = core.history }) in
+    let last : State = record { over = g; history = K; relations = core.relations } in
+    let same : core ≡ last = (λ i. record { over = w.over i; history = core.history; relations = core.relations }) in
     let some_there : 1 ≤ budget = subst (λ (x : State). 1 ≤ x.over.budget) same some in
     let sorted_there : IsRepository s.base = subst (λ (x : State). IsRepository x.over.base) same sorted in
     let telling : IsResultOf last r = subst (λ (x : State). IsResultOf x r) same told in

@@ -7,7 +7,7 @@ use Rattle.def_history.specs.Cores.{IsLegalOver}
 use Rattle.def_language.specs.Sessions.{SessionData}
 use Rattle.def_language.specs.Validity.{IsSession}
 use Rattle.lang_session.specs.Base.{base_violation}
-use Rattle.core_engine.specs.States.{State, ground_of, admissions_from, is_quiet_at}
+use Rattle.core_engine.specs.States.{State, ground_of, admissions_from, is_quiet_after}
 
 -- A step or a delivery.
 abbrev pub is_move : PlainEntry → Bool
@@ -24,7 +24,7 @@ pub record IsRunOf (s : SessionData) (budget : ℕ) (c : Settings) (H : List Pla
   pub moves : List PlainEntry
   pub begins : H ≡ admissions_from 1 (length s.updates) ++ moves
   pub alone : list_all is_move moves ≡ true
-  pub quiet : is_quiet_at (record { over = ground_of s budget c; history = H }) ≡ true
+  pub quiet : is_quiet_after (ground_of s budget c) H ≡ true
 
 -- A session that was run, with the budget of each update, the settings, and the entries of its history.
 pub record Run : Type 0 where

@@ -140,7 +140,7 @@ pub fn worked_over<'s, R: Threads + Wait + Clock + Sync, G: Gate + Sync>(
         seats,
         answers,
     } = working;
-    let core = Core::open_over(alloc, session, base, settings, budget)?;
+    let core = Core::open_met(alloc, session, base, settings, budget)?;
     core.is_legal();
     let seated = Seated::new(core, answers);
     match run(rt, gate, alloc, seated, seats) {

@@ -1,8 +1,8 @@
 -- The events that lines lead to are a legal history, and what it commits is serial.
-use Rattle.std.proofs.Common.{◌≡◌, ◌≤◌, ℕ, Bool, true, false, List, [], ◌∷◌, ◌++◌, length, refl}
+use Rattle.std.proofs.Common.{◌≡◌, ◌∙◌, ap, sym, ◌≤◌, ℕ, Bool, true, false, List, [], ◌∷◌, ◌++◌, length, refl}
 use Rattle.std.specs.Prelude.{Option, Some, None, Result, Ok, Err, nat_le, if◌then◌else◌}
 use Rattle.lang_session.specs.Admissible.{admits}
-use Rattle.core_engine.specs.LiveCalls.{fits_at, is_withdrawn}
+use Rattle.core_engine.specs.LiveCalls.{admits_at, fits_at, is_withdrawn}
 use Rattle.core_engine.specs.States.{State, committed_at, lowest_deliverable_at, lowest_ready_at, standing_at, updates_at}
 use Rattle.core_engine.proofs.Living.{IsLiving, opened_living}
 use Rattle.core_laws.proofs.Growing.{grown_legal, live_grows, live_is_serial}
@@ -10,7 +10,7 @@ use Rattle.core_laws.specs.Live.{IsOfSession}
 use Rattle.def_language.specs.Faults.{Wrong}
 use Rattle.def_language.specs.Lines.{Spells, lines_of, read}
 use Rattle.def_language.specs.Names.{Name, is_one_of}
-use Rattle.def_language.specs.Sessions.{SessionData}
+use Rattle.def_language.specs.Sessions.{RelationSchema, SessionData}
 use Rattle.def_language.specs.Validity.{IsSession}
 use Rattle.def_history.specs.CoreLaws.{handed}
 use Rattle.def_history.specs.Cores.{Ground, IsLegalOver, grown, machine}
@@ -35,17 +35,19 @@ IsSound L = IsLiving L.session L.core
 
 made_sound : (L : Live) (g : Ground) (names : List Name) (H : Option (List PlainEntry)) → IsSound L → IsOfSession L.session g → ((es : List PlainEntry) → H ≡ Some es → IsLegalOver g es) → IsSound (made L g names H).next
 made_sound L g names None sound of legal = sound
-made_sound L g names (Some es) sound of legal = record { of = of; legal = legal es refl }
+made_sound L g names (Some es) sound of legal = record { of = of; legal = legal es refl; same = sound.same }
 
 event_sound : (L : Live) (e : Event (machine L.core.over)) → IsSound L → IsSound (event L (grown L.core.over L.core.history e)).next
 event_sound L e sound =
     made_sound L L.core.over L.labels (grown L.core.over L.core.history e) sound sound.of (λ es. grown_legal L.core.over L.core.history e es sound.of.some sound.legal)
 
-admission_sound : (L : Live) (label : Name) (op : Operation) → admits L.session.relations (length (updates_at L.core)) op ≡ true → IsSound L → IsSound (admission L label op).next
+admission_sound : (L : Live) (label : Name) (op : Operation) → admits_at L.core op ≡ true → IsSound L → IsSound (admission L label op).next
 admission_sound L label op fits sound =
     let g = handed L.core.over op in
     let legal : IsLegalOver g L.core.history = ((histories_are_kept L.core.over sound.of.some).handing L.core.history op sound.legal).legal in
-    let of : IsOfSession L.session g = live_grows L.session L.core.over (length (updates_at L.core)) op sound.of fits in
+    let count = length (updates_at L.core) in
+    let own : admits L.session.relations count op ≡ true = ap (λ (rs : List RelationSchema). admits rs count op) (sym sound.same) ∙ fits in
+    let of : IsOfSession L.session g = live_grows L.session L.core.over count op sound.of own in
     made_sound L g (L.labels ++ label ∷ []) (grown g L.core.history Admits) sound of (λ es. grown_legal g L.core.history Admits es sound.of.some legal)
 
 -- ---- one line
@@ -82,7 +84,7 @@ known_sound L n None sound = sound
 known_sound L n (Some c) sound = answer_sound L n c (standing_at L.core n) sound
 
 -- the update, where it is admitted or not
-if_admitted : (L : Live) (label : Name) (op : Operation) (fits : Bool) → admits L.session.relations (length (updates_at L.core)) op ≡ fits → IsSound L → IsSound (if fits then admission L label op else refuses L BadNull).next
+if_admitted : (L : Live) (label : Name) (op : Operation) (fits : Bool) → admits_at L.core op ≡ fits → IsSound L → IsSound (if fits then admission L label op else refuses L BadNull).next
 if_admitted L label op true e sound = admission_sound L label op e sound
 if_admitted L label op false e sound = sound
 
@@ -90,7 +92,7 @@ update_sound : (L : Live) (label : Name) (op : Option Operation) → IsSound L �
 update_sound L label None sound = sound
 update_sound L label (Some op) sound =
     let count = length (updates_at L.core) in
-    let fits = admits L.session.relations count op in
+    let fits = admits_at L.core op in
     either (nat_le 1000 count) (refuses L Full) (if fits then admission L label op else refuses L BadNull) sound
     (if_admitted L label op fits refl sound)
 

@@ -14,10 +14,10 @@ ghost use Rattle.yt_live.specs.declared.serving.TheConstants.{INPUT_LIMIT};
 use crate::ends::LiveEnd;
 use base_devices::{LineRefusal, Lines, NextLine, Source};
 use base_types::TryCopy;
-use cmd_plain::{Violated, base_violation};
 use lang_forms::{Word, Words};
 use lang_reader::read_session;
 use lang_session::Session;
+use run_base::{Violated, base_violation};
 use run_serial::base_of;
 use std::alloc::Global;
 

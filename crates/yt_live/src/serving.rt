@@ -1,11 +1,14 @@
 //! A stream of lines, served.
-ghost use Rattle.std.specs.Prelude.{◌≡◌, ◌+◌, ◌≤◌, ◌++◌, ◌∷◌, [], codes, length, IfErr, IfOk, OnOk};
+ghost use Rattle.std.specs.Prelude.{◌≡◌, ◌+◌, ◌≤◌, ◌++◌, ◌∷◌, [], None, codes, length, IfErr, IfOk, OnOk};
 ghost use Rattle.std.specs.Fmt.{decimal};
 ghost use Rattle.cmd_frame.specs.Devices.{Takes, change};
 ghost use Rattle.def_language.specs.Lines.{read};
 ghost use Rattle.core_queue.specs.Settings.{settings_of};
 ghost use Rattle.live_replies.specs.Meanings.{live_of};
-ghost use Rattle.live_replies.specs.Turns.{line_turn};
+ghost use Rattle.lang_session.specs.Base.{base_violation};
+ghost use Rattle.lang_session.specs.Meanings.{session_of};
+ghost use Rattle.def_language.specs.Validity.{IsSession};
+ghost use Rattle.live_replies.specs.Turns.{begun as begun_of, line_turn};
 ghost use Rattle.yt_live.specs.Ends.{Ends, EndsAlone, FailsReply, HasReplied, LeavesSerial, Serves, end_of, of_lines, of_stream};
 ghost use Rattle.yt_live.specs.Streams.{attended, opened_with, ready_line, served};
 
@@ -14,8 +17,10 @@ use crate::openings::{read_opening, session_in};
 use base_devices::{Lines, NextLine, Sink, Source, write_all};
 use base_limits::{Budget, MOST_BYTES};
 use base_types::Memory;
+use core_engine::OpenRefusal;
 use core_queue::Settings;
 use def_language::spelled_sessions_are_valid;
+use lang_session::Session;
 use live_replies::Conversation;
 use std::alloc::Global;
 
@@ -120,6 +125,26 @@ fn attend<S: Source, O: Sink>(
     converse(alloc, conversation, lines, source, sink)
 }
 
+// The session before the first line; its base is known to violate no mapping.
+fn begin<'s>(
+    alloc: Global,
+    session: &'s Session,
+    settings: Settings,
+    budget: Budget,
+) -> Result<Conversation<'s>, Memory>
+    requires valid { IsSession (session_of session.now) }
+    requires met { base_violation (session_of session.now) ≡ None }
+    requires retries { settings.retries ≤ 4 }
+    ensures begun { IfOk result (λ c. live_of c ≡ begun_of budget (settings_of settings)
+        (session_of session.now)) }
+{
+    match Conversation::open(alloc, session, settings, budget) {
+        Ok(conversation) => Ok(conversation),
+        Err(OpenRefusal::Violates(_)) => unreachable!(),
+        Err(OpenRefusal::Memory) => Err(Memory),
+    }
+}
+
 // Serves the session of the text, and then the lines of commands.
 fn serve_text<S: Source, O: Sink>(
     alloc: Global,
@@ -138,7 +163,7 @@ fn serve_text<S: Source, O: Sink>(
         (change O.taken O.fault_count sink.old sink.new) }
 {
     let session = session_in(alloc, text)?;
-    let mut conversation = Conversation::open(alloc, &session, settings, budget)?;
+    let mut conversation = begin(alloc, &session, settings, budget)?;
     attend(alloc, &mut conversation, lines, source, sink)
 }
 
@@ -156,7 +181,7 @@ fn serve_alone<O: Sink>(
         (end_of result) (change O.taken O.fault_count sink.old sink.new) }
 {
     let session = session_in(alloc, text)?;
-    let conversation = Conversation::open(alloc, &session, settings, budget)?;
+    let conversation = begin(alloc, &session, settings, budget)?;
     greet(alloc, &conversation, sink)
 }
 

@@ -4,6 +4,9 @@ use Rattle.core_engine.proofs.Delivering.{delivers_from}
 use Rattle.core_engine.proofs.Unread.{same_unread}
 use Rattle.core_engine.proofs.deliveries.deliver_at.Goals as goal
 
+pub make_delivery-requires-clause-least : goal.make_delivery-requires-clause-least
+make_delivery-requires-clause-least c = same_committed c.args.queue.now c.reserve_delivery.new.queue c.args.least c.reserve_delivery.ensures.same c.requires.least
+
 pub returns-clause-made : goal.returns-clause-made
 returns-clause-made c =
     delivers_from (settings_of c.args.settings) c.args.place c.args.queue.now c.reserve_delivery.new.queue c.make_delivery.new.queue c.args.history.now.items c.reserve_delivery.new.history.items c.make_delivery.new.history.items

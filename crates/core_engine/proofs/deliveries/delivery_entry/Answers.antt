@@ -11,6 +11,6 @@ pub returns : goal.returns
 returns c =
     record {
       told =
-          delivery_told (settings_of c.args.settings) c.args.place c.number-update.result c.committed-committed.result c.args.queue.now c.index-queue-place.result c.standing-standing.result
-          c.requires.numbers c.requires.place c.index-queue-place.is c.number-update.ensures.number c.committed-committed.ensures.committed c.standing-standing.ensures.standing;
+          delivery_told (settings_of c.args.settings) c.args.place c.number-update.result c.committed_from-committed.result c.args.queue.now c.index-queue-place.result c.standing-standing.result
+          c.requires.numbers c.requires.place c.index-queue-place.is c.number-update.ensures.number c.committed_from-committed.ensures.committed c.standing-standing.ensures.standing;
     }

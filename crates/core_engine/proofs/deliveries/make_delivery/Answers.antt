@@ -9,6 +9,9 @@ pub delivery_entry-entry-requires-clause-numbers : goal.delivery_entry-entry-req
 delivery_entry-entry-requires-clause-numbers c =
     put_with c.args.queue.now c.args.place c.index-queue-place.result c.deliver.new.self c.requires.numbers c.requires.place c.index-queue-place.is c.deliver.ensures.place
 
+pub delivery_entry-entry-requires-clause-least : goal.delivery_entry-entry-requires-clause-least
+delivery_entry-entry-requires-clause-least c = committed_kept c.args.queue.now _ c.args.place c.deliver.new.self [] (none_restarted (c.args.place + 1) _) c.args.least c.requires.below c.requires.least
+
 pub returns-clause-made : goal.returns-clause-made
 returns-clause-made c =
     delivers_to (settings_of c.args.settings) c.args.place c.args.queue.now c.index-queue-place.result c.deliver.new.self c.args.history.now.items c.put_last.new.history.items c.delivery_entry-entry.result

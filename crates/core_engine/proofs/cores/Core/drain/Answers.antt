@@ -4,7 +4,7 @@ use Rattle.core_engine.proofs.Resting.{turned_on, less_left, rests_quiet}
 use Rattle.core_engine.proofs.cores.Core.drain.Goals as goal
 
 pub turns-init : goal.turns-init
-turns-init c = record { turns = 0; over = refl; history = refl }
+turns-init c = record { turns = 0; over = refl; history = refl; relations = refl }
 
 pub turns-preserved : goal.turns-preserved
 turns-preserved c =

@@ -12,7 +12,7 @@ use Rattle.core_engine.specs.Planned.{PlanMeant}
 use Rattle.core_engine.proofs.Making.{some_number, ready_within, all_one_more, plan_ready, plan_between, core_steps, kept_ok, kept_err, has_stepped}
 use Rattle.core_engine.proofs.Committing.{least_ok, fewer_unready, unready_ok}
 use Rattle.core_engine.proofs.Marking.{known_after, known_ok}
-use Rattle.core_engine.proofs.Unread.{with_nothing_noted, most_ok, more_read}
+use Rattle.core_engine.proofs.Unread.{with_nothing_noted, with_origin, most_ok, more_read}
 use Rattle.core_engine.proofs.cores.Core.install.Goals as goal
 
 pub place_of-place-requires : goal.place_of-place-requires
@@ -56,10 +56,10 @@ step_at-requires-clause-after c =
 
 pub invariant_of-self : goal.invariant_of-self
 invariant_of-self c =
-    with_nothing_noted _ _ _ _ (record { update = 0; made = c.self.inside.known.made; marks = c.self.inside.known.marks }) refl
+    with_origin (with_nothing_noted _ _ _ _ (record { update = 0; made = c.self.inside.known.made; marks = c.self.inside.known.marks }) refl
     (kept_err _ c.self.inside.versions c.step_at.new.versions c.self.inside.queue.items c.deref_mut.result.now c.step_at.new.queue (drop (length c.step_at.new.queue) c.self.inside.queue.items) c.self.inside.queue.len
     c.self.inside.history.items c.step_at.new.history.items (omega arith) c.self.invariant.0 c.deref_mut.ensures.value c.in_err-committed.ensures.versions c.in_err-committed.ensures.queue c.step_at.ensures.long
-    c.in_err-committed.ensures.history)
+    c.in_err-committed.ensures.history)) c.self.invariant.5
 
 pub invariant_of-self-2 : goal.invariant_of-self-2
 invariant_of-self-2 c = (
@@ -87,6 +87,7 @@ invariant_of-self-2 c = (
       (ready_within _ c.self.inside.versions c.self.inside.queue.items _ _ c.self.invariant.0 c.self.view_is c.args.plan.update c.requires.ready c.place_of-place.result (c.place_of-place.ensures ∙ ap (λ (p : PlanMeant). p.update) c.plan.view_is)
       c.deref_mut.result.now c.deref_mut.ensures.value)
       c.place_of-place.ensures c.number_of-known.ensures.known c.number_of-known.ensures.update c.self.invariant.4),
+  c.self.invariant.5,
 )
 
 pub returns-clause-made : goal.returns-clause-made

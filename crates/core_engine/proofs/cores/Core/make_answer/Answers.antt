@@ -4,7 +4,7 @@ use Rattle.core_entries.specs.Meanings.{entry_of}
 use Rattle.def_machine.specs.Effects.{Answers}
 use Rattle.core_engine.proofs.Making.{some_number, kept_ok, kept_err, has_made}
 use Rattle.core_engine.proofs.Replying.{paused_number, paused_within, paused_numbers, core_answers}
-use Rattle.core_engine.proofs.Unread.{with_nothing_noted}
+use Rattle.core_engine.proofs.Unread.{with_nothing_noted, with_origin}
 use Rattle.core_engine.proofs.cores.Core.make_answer.Goals as goal
 
 pub place_of-place-requires : goal.place_of-place-requires
@@ -22,16 +22,16 @@ answer_at-requires-clause-numbers c =
 
 pub invariant_of-self : goal.invariant_of-self
 invariant_of-self c =
-    with_nothing_noted _ _ _ _ (record { update = 0; made = c.self.inside.known.made; marks = c.self.inside.known.marks }) refl
+    with_origin (with_nothing_noted _ _ _ _ (record { update = 0; made = c.self.inside.known.made; marks = c.self.inside.known.marks }) refl
     (kept_err _ c.self.inside.versions c.self.inside.versions c.self.inside.queue.items c.deref_mut.result.now c.answer_at.new.queue (drop (length c.answer_at.new.queue) c.self.inside.queue.items) c.self.inside.queue.len
-    c.self.inside.history.items c.answer_at.new.history.items (omega arith) c.self.invariant.0 c.deref_mut.ensures.value refl c.in_err-answer_at.ensures.queue c.answer_at.ensures.long c.in_err-answer_at.ensures.history)
+    c.self.inside.history.items c.answer_at.new.history.items (omega arith) c.self.invariant.0 c.deref_mut.ensures.value refl c.in_err-answer_at.ensures.queue c.answer_at.ensures.long c.in_err-answer_at.ensures.history)) c.self.invariant.5
 
 pub invariant_of-self-2 : goal.invariant_of-self-2
 invariant_of-self-2 c =
-    with_nothing_noted _ _ _ _ (record { update = 0; made = c.self.inside.known.made; marks = c.self.inside.known.marks }) refl
+    with_origin (with_nothing_noted _ _ _ _ (record { update = 0; made = c.self.inside.known.made; marks = c.self.inside.known.marks }) refl
     (kept_ok _ c.self.inside.versions c.answer_at.new.queue (drop (length c.answer_at.new.queue) c.self.inside.queue.items) c.self.inside.queue.len (map entry_of c.answer_at.new.history.items) (omega arith)
     (core_answers _ c.self.inside.versions c.self.inside.queue.items c.self.inside.history.items _ c.self.invariant.0 c.self.view_is c.args.update c.requires.paused c.place_of-place.result c.place_of-place.ensures c.deref_mut.result.now
-    c.deref_mut.ensures.value c.answer_at.new.queue c.answer_at.new.history.items (choice_of c.args.choice) c.requires.fits c.in_ok-answer_at.ensures.made).kept)
+    c.deref_mut.ensures.value c.answer_at.new.queue c.answer_at.new.history.items (choice_of c.args.choice) c.requires.fits c.in_ok-answer_at.ensures.made).kept)) c.self.invariant.5
 
 pub returns-clause-made : goal.returns-clause-made
 returns-clause-made c =

@@ -1,7 +1,8 @@
 use Rattle.std.proofs.Common.{◌∙◌, refl, sym, subst, List, arith, drop, length}
 use Rattle.core_queue.specs.declared.updates.QueuedUpdate.{QueuedUpdate}
 use Rattle.core_engine.specs.Known.{IsKnown}
-use Rattle.core_engine.proofs.Making.{front, some_number, ready_within, ready_numbers, ready_placed, left_placed, held_placed, snapshot_update, snapshot_step}
+use Rattle.core_engine.proofs.Small.{front}
+use Rattle.core_engine.proofs.Making.{some_number, ready_within, ready_numbers, ready_placed, left_placed, held_placed, snapshot_update, snapshot_step}
 use Rattle.core_engine.proofs.Placing.{if_ok}
 use Rattle.core_engine.proofs.Unread.{as_before}
 use Rattle.core_engine.proofs.cores.Core.next_plan.Goals as goal
@@ -49,5 +50,5 @@ returns-clause-step c =
 pub invariant_of-self : goal.invariant_of-self
 invariant_of-self c =
     let back = front c.plan_at.new.queue (drop (length c.plan_at.new.queue) c.self.inside.queue.items) c.self.inside.queue.len (omega arith) ∙ c.plan_at.ensures.same in
-    let before = as_before _ _ _ _ _ _ _ _ _ (back ∙ c.deref_mut.ensures.value) c.self.invariant in
-    (before.0, before.1, before.2, before.3, subst (λ (rs : List QueuedUpdate). IsKnown c.self.inside.mappings c.self.inside.versions rs c.plan_at.new.known) (sym back) c.plan_at.ensures.known)
+    let before = as_before _ _ _ _ _ _ _ _ _ (back ∙ c.deref_mut.ensures.value) (c.self.invariant.0, c.self.invariant.1, c.self.invariant.2, c.self.invariant.3, c.self.invariant.4) in
+    (before.0, before.1, before.2, before.3, subst (λ (rs : List QueuedUpdate). IsKnown c.self.inside.mappings c.self.inside.versions rs c.plan_at.new.known) (sym back) c.plan_at.ensures.known, c.self.invariant.5)

@@ -1,7 +1,7 @@
 use Rattle.std.proofs.Common.{◌≡◌, map, drop}
 use Rattle.lang_schema.specs.Meanings.{session_mapping_of}
 use Rattle.lang_session.specs.Base.{first_violated}
-use Rattle.cmd_plain.proofs.base.first_violated.Given as goal
+use Rattle.run_base.proofs.base.first_violated.Given as goal
 
 -- No mapping before the place has a violation.
 abbrev pub invariant-loop-mapping : goal.invariant-loop-mapping

@@ -1,7 +1,7 @@
 -- What the program's record of a violation stands for.
 use Rattle.std.specs.Prelude.{map}
 use Rattle.base_types.specs.Meanings.{fact_of}
-use Rattle.cmd_plain.specs.declared.base.Violated.{Violated}
+use Rattle.run_base.specs.declared.base.Violated.{Violated}
 use Rattle.lang_session.specs.Base as meant
 
 -- the name of the violated mapping, and the image
