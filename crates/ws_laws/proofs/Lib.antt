@@ -1,0 +1,15 @@
+pub mod Folding
+pub mod Growing
+pub mod Declaring
+pub mod Holding
+pub mod Beside
+pub mod Placing
+pub mod Rerunning
+pub mod Answering
+pub mod SameMappings
+pub mod Replaying
+pub mod Logging
+pub mod Marking
+pub mod Alike
+pub mod Unfolding
+pub mod Redoing
