@@ -13,7 +13,7 @@ pub record MemState : Type 0 where
 abbrev pub trace_of : MemState → Trace
 trace_of m = record { made_of = m.made_of; calls = m.log.calls }
 
--- what a read gives
+-- the bytes that a read gives
 abbrev pub bytes_of : MemState → List ℕ
 bytes_of m = traces.bytes_of (trace_of m)
 

@@ -1,7 +1,7 @@
--- What a write does to the bytes of a disk, and what a crash may leave of it.
+-- The effect of a write on the bytes of a disk, and of a crash during it.
 use Rattle.std.specs.Prelude.{◌≡◌, ℕ, ◌+◌, ◌<◌, ◌≤◌, Bool, false, ◌&&◌, nat_le, nat_lt, List, ◌++◌, length, take, drop, slice_get}
 
--- a range of a disk: its first place and how many bytes it has
+-- a range of a disk: its first place and its number of bytes
 pub record Range : Type 0 where
   pub at : ℕ
   pub count : ℕ
@@ -14,11 +14,11 @@ covers r i = nat_le r.at i && nat_lt i (r.at + r.count)
 abbrev pub range_of : ℕ → List ℕ → Range
 range_of at bytes = record { at = at; count = length bytes }
 
--- the bytes after a write at a place: over what was there, and past its end
+-- the bytes after a write at a place: over the old bytes, and beyond their end
 abbrev pub written : ℕ → List ℕ → List ℕ → List ℕ
 written at bytes old = take at old ++ (bytes ++ drop (at + length bytes) old)
 
--- After a write that a crash cuts short: any bytes in the range and past the old end, all others as they were. The
+-- The bytes after a write that a crash cuts short: any bytes in the range and beyond the old end, all others as they were. The
 -- bytes may end anywhere from the old end on.
 pub record IsTorn (r : Range) (old new : List ℕ) : Type 0 where
   pub no_shorter : length old ≤ length new

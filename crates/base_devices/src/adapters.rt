@@ -8,8 +8,8 @@ use crate::{Failed, Sink, Source};
 use std::io::{Read, Write};
 use std::marker::Model;
 
-/// A source over a reader. It tells the bytes that the reader tells: those of a reader in memory,
-/// and none of a file or a stream.
+/// A source over a reader. Contracts know its bytes if they know the reader's: those of a reader in memory, but not those of a
+/// file or a stream.
 #[derive(Drop)]
 pub struct StdSource<R: Read + Drop> {
     reader: R,
@@ -60,8 +60,8 @@ impl<R: Read + Drop> Source for StdSource<R> {
     }
 }
 
-/// A sink over a writer. It tells the bytes that the writer tells: those of a writer in memory, and
-/// none of a file or a stream.
+/// A sink over a writer. Contracts know its bytes if they know the writer's: those of a writer in memory, but not those of a file
+/// or a stream.
 #[derive(Drop)]
 pub struct StdSink<W: Write + Drop> {
     writer: W,
@@ -90,8 +90,7 @@ impl<W: Write + Drop> Sink for StdSink<W> {
 
     ghost fault_count = { λ s. s.faults };
 
-    /// Writes once. Each error of the writer is a fault, and so is a write that takes nothing of a
-    /// piece that has some bytes.
+    /// Writes once. Each error of the writer is a fault, and so is a write that takes nothing of a piece that is not empty.
     fn put(&mut self, from: &[u8]) -> Result<usize, Failed>
         ensures bound { WritesAtMost result from.now }
         ensures some { 0 < length from.now → IfOk result (λ count. 0 < count) }

@@ -1,15 +1,15 @@
-// What a disk is.
+// Disks.
 ghost use Rattle.std.specs.Prelude.{◌≡◌, ◌≤◌, length, IfOk, OnOk};
 ghost use Rattle.base_devices.specs.declared.disks.DiskRefusal.TheVariants.{Memory};
 
 use std::alloc::{AllocError, AllocFailed, Global};
 
-/// Why a call of a disk did not do its work.
+/// Why a call of a disk failed.
 #[derive(Clone, Copy, Debug, PartialEq, Eq)]
 pub enum DiskRefusal {
     /// The disk failed, and has counted the fault.
     Failed,
-    /// Memory for the call was wanting. The disk is as it was before it.
+    /// There was not enough memory for the call. The disk is as it was before it.
     Memory,
 }
 
@@ -31,17 +31,17 @@ impl<T: Drop> From<AllocFailed<T>> for DiskRefusal {
 
 /// A disk, as its one user sees it: the bytes of one file.
 ///
-/// Between two syncs each range that was written since the last sync that answered `Ok` may hold any
-/// bytes after a crash, and the file may end anywhere from its old end on. All other bytes stay. A
-/// write that failed counts as one. After a sync that answered `Ok` a crash leaves what a read gives.
+/// After a crash, each range that was written since the last sync that returned `Ok` may hold any bytes, and the file may end
+/// anywhere from its old end on. All other bytes stay. A failed write counts as a write. Right after a sync that returned `Ok`, a
+/// crash leaves the bytes that a read gives.
 pub trait Disk {
     ghost use Rattle.base_devices.specs.States.{GoesOn, IsLeft, IsLeftTorn, IsRefused, IsSettled, LeavesOnly, State};
     ghost use Rattle.base_devices.specs.Torn.{range_of, written};
 
-    /// What contracts see of it.
+    /// The state of the disk, as contracts see it.
     ghost state: { Self → State };
 
-    /// All the bytes.
+    /// Reads all bytes.
     fn load(&mut self, alloc: Global) -> Result<Vec<u8>, DiskRefusal>
         ensures bytes { IfOk result (λ all. all.items ≡ (state self.old).bytes) }
         ensures same { (state self.new).bytes ≡ (state self.old).bytes }
@@ -50,7 +50,7 @@ pub trait Disk {
         ensures read { IsLeft (state self.new) (state self.new).bytes }
         ensures cause { IsRefused (state self.old) (state self.new) result };
 
-    /// Writes the bytes over what is there from the place on, and past the end.
+    /// Writes the bytes from the place on, over the old bytes and beyond their end.
     fn write_at(&mut self, at: usize, bytes: &[u8]) -> Result<(), DiskRefusal>
         requires { at ≤ length (state self.old).bytes }
         ensures bytes { OnOk result
@@ -61,7 +61,7 @@ pub trait Disk {
         ensures read { IsLeft (state self.new) (state self.new).bytes }
         ensures cause { IsRefused (state self.old) (state self.new) result };
 
-    /// Makes all that was written last.
+    /// Makes all writes so far last.
     fn sync(&mut self) -> Result<(), DiskRefusal>
         ensures settled { OnOk result (IsSettled (state self.new)) }
         ensures same { (state self.new).bytes ≡ (state self.old).bytes }
@@ -70,7 +70,7 @@ pub trait Disk {
         ensures read { IsLeft (state self.new) (state self.new).bytes }
         ensures cause { IsRefused (state self.old) (state self.new) result };
 
-    /// How often the disk has failed. The count of a `u64` stands still at its last value.
+    /// The number of times that the disk has failed. The count stops at the last value of a `u64`.
     fn faults(&self) -> u64
         ensures { result ≡ (state self.now).faults };
 }

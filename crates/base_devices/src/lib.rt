@@ -1,7 +1,7 @@
-//! Sources and sinks of bytes that count their faults, reading to the end and writing whole.
+//! Sources and sinks of bytes that count their faults, disks, reading to the end, and writing whole texts.
 //!
-//! A device that fails answers [`Failed`] and counts it. So a caller that answers a fault can show,
-//! by the count, that the device failed.
+//! A device that fails returns [`Failed`] and counts the fault. So a caller that reports a fault can show, by the count, that the
+//! device failed.
 #![tactic(auto)]
 
 mod adapters;

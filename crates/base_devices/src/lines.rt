@@ -1,4 +1,4 @@
-//! A reader of lines, which keeps what it took behind the line that it gave.
+//! A reader of lines, which keeps the bytes that it took beyond the line that it gave.
 ghost use Rattle.std.specs.Prelude.{◌≡◌, ◌≤◌, [], false, IfOk, IfErr, IsErrOf};
 ghost use Rattle.base_devices.specs.Faults.{Rose};
 ghost use Rattle.base_devices.specs.Given.{HasCut, HasEnded, HasFilled, HasGiven, IsLine, IsLost, no_room};
@@ -15,7 +15,7 @@ use std::marker::Model;
 pub enum NextLine {
     /// A line that a line feed ends.
     Whole(Vec<u8>),
-    /// What stands behind the last line feed, at the end of the input.
+    /// The bytes after the last line feed, at the end of the input.
     Last(Vec<u8>),
 }
 
@@ -26,7 +26,7 @@ pub enum LineRefusal {
     ReadFault,
     /// The input has more bytes than may be taken.
     TooLong,
-    /// Memory for the line was wanting.
+    /// There was not enough memory for the line.
     Memory,
 }
 
@@ -54,10 +54,11 @@ impl<T: Drop> From<AllocFailed<T>> for LineRefusal {
     }
 }
 
-// How many bytes one read asks for at most.
+// The most bytes that one read asks for.
 const PIECE: usize = 16_384;
 
-/// The lines of one source. Contracts see the bytes that were taken and not given yet, and how many more may be taken.
+/// The lines of one source. Contracts see the bytes that were taken and not given yet, and the number of bytes that may still be
+/// taken.
 #[derive(Drop)]
 pub struct Lines {
     kept: Vec<u8>,
@@ -77,7 +78,7 @@ impl Model for Lines {
 }
 
 impl Lines {
-    /// Before the first line, where so many bytes may be taken. It takes no memory.
+    /// A reader before the first line, which may take `limit` bytes.
     pub fn new(alloc: Global, limit: usize) -> Lines
         ensures fresh { result ≡ record { bytes = []; room = limit } }
     {
@@ -88,8 +89,8 @@ impl Lines {
         }
     }
 
-    /// The next line. It is refused with `TooLong` exactly where a byte more was taken than may be, and the bytes that may
-    /// be have no further line feed. What is refused is lost to the reader: it is of no use then.
+    /// The next line. It is refused with `TooLong` exactly if one byte more than allowed was taken, and the allowed bytes have no
+    /// further line feed. After a refusal bytes are lost, so the reader is of no use any more.
     pub fn next<S: Source>(
         &mut self,
         alloc: Global,
@@ -114,7 +115,7 @@ impl Lines {
         }
     }
 
-    // Moves what is kept to the line, up to the first line feed, which goes too; whether there was one.
+    // Moves the kept bytes to the line, up to the first line feed, which is dropped. Returns whether there was one.
     fn cut(&mut self, line: &mut Vec<u8>) -> Result<bool, Memory>
         ensures moved { IfOk result (HasCut self.old self.new line.old.items line.new.items) }
         ensures room { self.new.room ≡ self.old.room }
@@ -134,7 +135,7 @@ impl Lines {
         }
     }
 
-    // Takes some bytes from the source, where none is kept; whether there were any.
+    // Takes some bytes from the source; none may be kept. Returns whether there were any.
     fn fill<S: Source>(&mut self, source: &mut S) -> Result<bool, LineRefusal>
         requires none { self.old.bytes ≡ [] }
         ensures filled { IfOk result (HasFilled (S.left source.old) (S.left source.new) self.old
@@ -160,7 +161,7 @@ impl Lines {
     }
 }
 
-// Whether more bytes come where none may be taken: false at the end of the input, and too long an input else.
+// Called if no more bytes may be taken: false at the end of the input, otherwise the refusal `TooLong`.
 fn ended<S: Source>(source: &mut S) -> Result<bool, LineRefusal>
     ensures ended { IfOk result (λ more. (more ≡ false) × HasEnded (S.left source.old)
         (S.left source.new)) }

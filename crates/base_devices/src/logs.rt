@@ -6,7 +6,7 @@ use crate::DiskRefusal;
 use std::alloc::Global;
 use std::marker::Model;
 
-/// What a call of a disk is asked to do.
+/// The work of a call of a disk.
 #[derive(Drop)]
 pub(crate) enum Deed {
     Load,
@@ -21,7 +21,7 @@ pub(crate) struct Counted {
     failed: bool,
 }
 
-/// The counted calls, and the numbers of those that fail.
+/// The counted calls, and the numbers of the calls that fail.
 #[derive(Drop)]
 pub(crate) struct Log {
     calls: Vec<Counted>,
@@ -43,7 +43,7 @@ impl Model for Log {
     } };
 }
 
-// Whether the call after so many is one of those that fail.
+// Whether the call after `calls` calls must fail.
 fn is_listed(failing: &[u64], calls: usize) -> bool
     ensures { result ≡ is_listed failing.now calls }
 {
@@ -55,7 +55,7 @@ impl Log {
     ghost use Rattle.base_devices.specs.Logs.{IsCounted, fails_next};
     ghost use Rattle.base_devices.specs.Counted.{deed_of};
 
-    /// No call yet.
+    /// The log before the first call.
     pub(crate) fn new(alloc: Global, failing: Vec<u64>) -> Log
         ensures { result ≡ record { calls = []; failing = failing.items; faults = 0 } }
     {
@@ -66,7 +66,7 @@ impl Log {
         }
     }
 
-    // Whether the next call is one of those that fail.
+    // Whether the next call must fail.
     fn fails_next(&self) -> bool
         ensures { result ≡ fails_next self.now }
     {
@@ -93,7 +93,7 @@ impl Log {
         Ok(())
     }
 
-    /// How many calls have failed.
+    /// The number of calls that have failed.
     pub(crate) fn faults(&self) -> u64
         ensures { result ≡ self.now.faults }
     {

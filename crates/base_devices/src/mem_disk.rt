@@ -10,8 +10,8 @@ use crate::{Disk, DiskRefusal, Memory};
 use std::alloc::Global;
 use std::marker::Model;
 
-/// Bytes in memory that are used as a disk, with failures at chosen calls. It keeps the bytes that it
-/// was made of and its calls, which say what a crash at each moment may leave.
+/// Bytes in memory as a disk, with failures at chosen calls. It keeps the bytes that it was made of and its calls, which
+/// determine what a crash at each moment may leave.
 #[derive(Drop)]
 pub struct MemDisk {
     alloc: Global,
@@ -33,7 +33,7 @@ impl Model for MemDisk {
         s.bytes.items ≡ (after_all (fresh s.made_of.items) s.log.calls).bytes };
 }
 
-/// Writes over what is there from the place on, and past the end, for which there is room.
+/// Writes the bytes from the place on, over the old ones and beyond their end. There must be room for them.
 pub fn overwrite(file: &mut Vec<u8>, at: usize, bytes: &[u8])
     requires at { at ≤ length file.old.items }
     requires room { vec_len file.old + length bytes.now ≤ vec_capacity file.old }
@@ -48,8 +48,8 @@ pub fn overwrite(file: &mut Vec<u8>, at: usize, bytes: &[u8])
 }
 
 impl MemDisk {
-    /// A disk of these bytes, all of them synced, which fails at the calls with the numbers of
-    /// `failing`. Loads, syncs and writes are counted, and the first has the number 1.
+    /// A disk of these bytes, all synced, which fails at the calls whose numbers are in `failing`. Loads, syncs and writes are
+    /// counted; the first has number 1.
     pub fn of(alloc: Global, bytes: Vec<u8>, failing: Vec<u64>) -> Result<MemDisk, Memory>
         ensures { IfOk result (λ disk. disk ≡ unused_disk bytes.items failing.items) }
     {
@@ -61,14 +61,14 @@ impl MemDisk {
         })
     }
 
-    /// What a read gives.
+    /// The bytes that a read gives.
     pub fn bytes(&self) -> &[u8]
         ensures { result.now ≡ bytes_of self.now }
     {
         &self.bytes
     }
 
-    // Gives the bytes, in a call that is counted.
+    // Counts a load, and returns the bytes unless it fails.
     fn make_load(&mut self, alloc: Global) -> Result<Vec<u8>, DiskRefusal>
         ensures bytes { IfOk result (λ all. all.items ≡ bytes_of self.old) }
         ensures made_of { self.new.made_of ≡ self.old.made_of }
@@ -80,7 +80,7 @@ impl MemDisk {
         Ok(all)
     }
 
-    // A sync, which is counted.
+    // Counts a sync, which may fail.
     fn make_sync(&mut self) -> Result<(), DiskRefusal>
         ensures made_of { self.new.made_of ≡ self.old.made_of }
         ensures counted { IsCounted Sync self.old.log self.new.log result }
@@ -116,7 +116,7 @@ impl Disk for MemDisk {
         ensures read { IsLeft (state_of self.new) (bytes_of self.new) }
         ensures cause { IsRefused (state_of self.old) (state_of self.new) result }
 
-        // Which calls fail.
+        // The calls that fail.
         ensures made_of { self.new.made_of ≡ self.old.made_of }
         ensures counted { IsCounted Load self.old.log self.new.log result }
     {
@@ -132,7 +132,7 @@ impl Disk for MemDisk {
         ensures read { IsLeft (state_of self.new) (bytes_of self.new) }
         ensures cause { IsRefused (state_of self.old) (state_of self.new) result }
 
-        // Which calls fail.
+        // The calls that fail.
         ensures made_of { self.new.made_of ≡ self.old.made_of }
         ensures counted { IsCounted (Write at bytes.now) self.old.log self.new.log result }
     {
@@ -148,7 +148,7 @@ impl Disk for MemDisk {
         ensures read { IsLeft (state_of self.new) (bytes_of self.new) }
         ensures cause { IsRefused (state_of self.old) (state_of self.new) result }
 
-        // Which calls fail.
+        // The calls that fail.
         ensures made_of { self.new.made_of ≡ self.old.made_of }
         ensures counted { IsCounted Sync self.old.log self.new.log result }
     {

@@ -1,4 +1,4 @@
-// Reading to the end, and writing whole.
+// Reading to the end, and writing whole texts.
 ghost use Rattle.std.specs.Prelude.{◌≡◌, ℕ, ◌≤◌, IfOk, IfErr, OnOk, IsErrOf, vec_len};
 ghost use Rattle.std.specs.Io.KnownBytes.{Appends, Consumes, IsAtEnd};
 ghost use Rattle.base_devices.specs.Faults.{FailsByFault, Rose};
@@ -16,7 +16,7 @@ pub enum ReadRefusal {
     ReadFault,
     /// The input has more bytes than the limit.
     TooLong,
-    /// Memory for the input was wanting.
+    /// There was not enough memory for the input.
     Memory,
 }
 
@@ -38,14 +38,13 @@ impl From<Failed> for WriteFault {
     }
 }
 
-// How many bytes a read asks for at most.
+// The most bytes that one read asks for.
 const PIECE: usize = 16_384;
 
 /// Reads to the end of the input, of at most `limit` bytes.
 ///
-/// It answers `TooLong` exactly where it took more than `limit` bytes, and then it took one more.
-/// Memory for a piece is taken before the piece is read, so `Memory` comes only where no more than
-/// the limit was taken.
+/// It returns `TooLong` exactly if it took more than `limit` bytes; then it took one more. Memory for a piece is taken before the
+/// piece is read, so with `Memory` no more than the limit was taken.
 pub fn read_all<S: Source>(
     alloc: Global,
     source: &mut S,
@@ -77,7 +76,7 @@ pub fn read_all<S: Source>(
     Err(ReadRefusal::TooLong)
 }
 
-/// Writes all bytes. Each `put` is handed all that are left. No memory is taken.
+/// Writes all bytes. Each `put` is handed all that are left.
 pub fn write_all<O: Sink>(sink: &mut O, bytes: &[u8]) -> Result<(), WriteFault>
     ensures ok { OnOk result (Appends (O.taken sink.old) (O.taken sink.new) bytes.now) }
     ensures all_or_prefix { TakesAllOrPrefix (O.taken sink.old) (O.taken sink.new)

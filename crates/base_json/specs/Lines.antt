@@ -36,12 +36,12 @@ abbrev mutual
 abbrev pub with_all : Typed → List Json → Typed
 with_all line js = fold with_json line js
 
--- The values as those of a list.
+-- The values as the items of a list.
 abbrev pub items_of : List Json → Items
 items_of [] = no_items
 items_of (j ∷ js) = item j (items_of js)
 
--- A value is added as its own compact text, behind a comma where one is due; a list, as its values and a bracket.
+-- A value is added as its own compact text, after a comma if one is needed; a list, as its values and a bracket.
 pub record AddsValues : Type 0 where
   pub value : (line : Typed) (j : Json) → (with_json line j).text ≡ line.text ++ print_from line.ended (json_tokens j)
   pub list : (line : Typed) (js : List Json) → with_items line (items_of js) ≡ with_token (with_all line js) Token.end_array

@@ -5,7 +5,7 @@ ghost use Rattle.json.specs.Print.{escape_byte, escape_letter, quoted};
 
 use std::alloc::AllocError;
 
-// The letter of a byte's short escape, or 0 where it has none.
+// The letter of a byte's short escape, or 0 if it has none.
 fn letter(byte: u8) -> u8
     ensures { result ≡ escape_letter byte }
 {
@@ -54,7 +54,7 @@ fn push_all_escaped(out: &mut Vec<u8>, text: &[u8]) -> Result<(), AllocError>
     Ok(())
 }
 
-/// A string in its quotes.
+/// Adds a string in quotes.
 pub(crate) fn push_quoted(out: &mut Vec<u8>, text: &[u8]) -> Result<(), AllocError>
     ensures { OnOk result (out.new.items ≡ out.old.items ++ quoted text.now) }
 {

@@ -1,7 +1,7 @@
-//! A line of JSON, written token by token: the compact text of its values, the keys in the order in which they are given.
+//! A line of JSON, written token by token: the compact text of its values, with keys in the order in which they are given.
 //!
-//! Texts are bytes, and are not asked to be UTF-8. `specs/Lines.antt` says what a token and what a value adds to a line, in
-//! the terms of the kit's `json`.
+//! Texts are bytes, and need not be UTF-8. `specs/Lines.antt` says what a token and a value add to a line, in the terms of the
+//! kit's `json`.
 #![tactic(auto)]
 
 mod bytes;

@@ -11,7 +11,7 @@ use itoa::Buffer;
 use std::alloc::AllocError;
 use std::marker::Model;
 
-/// Text that grows by tokens of JSON, with no tree of values between. A call that wants memory takes the line with it.
+/// Text that grows by tokens of JSON, without a tree of values in between. If memory runs out, the line is lost.
 #[derive(Drop)]
 pub struct Line {
     text: Vec<u8>,
@@ -36,14 +36,14 @@ fn push_comma(out: &mut Vec<u8>, ended: bool) -> Result<(), AllocError>
 }
 
 impl Line {
-    /// The line that goes on from a text. It takes no memory.
+    /// The line that continues a text.
     pub fn after(text: Vec<u8>) -> Line
         ensures { result ≡ record { text = text.items; ended = false } }
     {
         Line { text, ended: false }
     }
 
-    /// The text. It takes no memory.
+    /// The text.
     pub fn into_text(self) -> Vec<u8>
         ensures { result.items ≡ self.text }
     {
@@ -51,7 +51,7 @@ impl Line {
         text
     }
 
-    /// Begins an object. It is refused only for want of memory.
+    /// Begins an object.
     pub fn begin_object(mut self) -> Result<Line, Memory>
         ensures { IfOk result (λ line. line ≡ with_token self token_of.begin_object) }
     {
@@ -61,7 +61,7 @@ impl Line {
         Ok(self)
     }
 
-    /// Ends the object. It is refused only for want of memory.
+    /// Ends the object.
     pub fn end_object(mut self) -> Result<Line, Memory>
         ensures { IfOk result (λ line. line ≡ with_token self token_of.end_object) }
     {
@@ -70,7 +70,7 @@ impl Line {
         Ok(self)
     }
 
-    /// Begins a list. It is refused only for want of memory.
+    /// Begins a list.
     pub fn begin_array(mut self) -> Result<Line, Memory>
         ensures { IfOk result (λ line. line ≡ with_token self token_of.begin_array) }
     {
@@ -80,7 +80,7 @@ impl Line {
         Ok(self)
     }
 
-    /// Ends the list. It is refused only for want of memory.
+    /// Ends the list.
     pub fn end_array(mut self) -> Result<Line, Memory>
         ensures { IfOk result (λ line. line ≡ with_token self token_of.end_array) }
     {
@@ -89,7 +89,7 @@ impl Line {
         Ok(self)
     }
 
-    /// The key of a member of the object. It is refused only for want of memory.
+    /// Adds the key of a member of the object.
     pub fn key(mut self, name: &[u8]) -> Result<Line, Memory>
         ensures { IfOk result (λ line. line ≡ with_token self (token_of.key name.now)) }
     {
@@ -100,7 +100,7 @@ impl Line {
         Ok(self)
     }
 
-    /// A text. It is refused only for want of memory.
+    /// Adds a text.
     pub fn string(mut self, text: &[u8]) -> Result<Line, Memory>
         ensures { IfOk result (λ line. line ≡ with_token self (token_of.string text.now)) }
     {
@@ -110,7 +110,7 @@ impl Line {
         Ok(self)
     }
 
-    /// A whole number. It is refused only for want of memory.
+    /// Adds a whole number.
     pub fn number(mut self, number: u64) -> Result<Line, Memory>
         ensures { IfOk result (λ line. line ≡ with_token self (token_of.number (decimal number))) }
     {

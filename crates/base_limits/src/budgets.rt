@@ -1,9 +1,10 @@
-//! How many steps an update may take.
+//! The number of steps that an update may take.
 ghost use Rattle.std.specs.Prelude.{◌≡◌, ◌≤◌, nat_lt};
 
 use std::marker::Model;
 
-/// How many steps an update may take: from 1 to 1,000,001, one more than a workspace allows. Contracts see that number.
+/// The number of steps that an update may take: from 1 to 1,000,001, which is one more than a workspace allows. Contracts see
+/// that number.
 #[derive(Clone, Copy, Debug)]
 pub struct Budget {
     steps: u32,
@@ -22,7 +23,7 @@ impl Model for Budget {
 }
 
 impl Budget {
-    /// The budget of so many steps.
+    /// The budget of `steps` steps.
     pub fn new(steps: u32) -> Budget
         requires some { 1 ≤ steps }
         requires most { steps ≤ 1000001 }
@@ -31,21 +32,21 @@ impl Budget {
         Budget { steps }
     }
 
-    /// How many steps it has.
+    /// The number of steps.
     pub fn steps(self) -> u32
         ensures same { result ≡ self }
     {
         self.steps
     }
 
-    /// Whether it has a step left after so many.
+    /// Whether it has a step left after `steps` steps.
     pub fn allows(self, steps: u32) -> bool
         ensures answer { result ≡ nat_lt steps self }
     {
         steps < self.steps
     }
 
-    /// Each budget is within the limits. It does nothing but say so.
+    /// A law: each budget is within the limits. The call does nothing.
     pub fn is_within(self)
         ensures some { 1 ≤ self }
         ensures most { self ≤ 1000001 }

@@ -1,4 +1,4 @@
-//! How much there may be of what a session and a call have. Each limit stands here, once.
+//! The limits of sessions and calls, each in this one place.
 
 /// The most updates of a session.
 pub const MOST_UPDATES: u32 = 1000;

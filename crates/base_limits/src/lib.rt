@@ -1,8 +1,8 @@
-//! The limits that the chase keeps to: how many mappings a session has and how many existential variables each of them,
-//! and how many steps an update may take; and the most of everything else that a session and a call may have, by name.
+//! The limits of the chase: the numbers of mappings of a session, of existential variables of a mapping, and of steps of an
+//! update. Also the limits of everything else in sessions and calls, each with a name.
 //!
-//! Contracts see `Mappings` as a list of rules and a `Budget` as its number of steps. That they are within the limits is
-//! true of every value of the two types, so that no contract above says it.
+//! Contracts see `Mappings` as a list of rules and a `Budget` as its number of steps. Every value of the two types is within the
+//! limits, so no contract above needs to say it.
 #![tactic(auto)]
 
 mod budgets;

@@ -28,7 +28,7 @@ impl<'a> Model for Mappings<'a> {
 }
 
 impl<'a> Mappings<'a> {
-    /// The mappings of the list, which are within the limits.
+    /// The mappings of the list, which must be within the limits.
     pub fn of(list: &'a MappingList) -> Mappings<'a>
         requires within { AreWithin (map rule_of list.now.items) }
         ensures rules { result ≡ map rule_of list.now.items }
@@ -36,14 +36,14 @@ impl<'a> Mappings<'a> {
         Mappings { list }
     }
 
-    /// The list that they stand in, with their names.
+    /// The list of the mappings, with their names.
     pub fn list(&self) -> &'a MappingList
         ensures rules { map rule_of result.now.items ≡ self.now }
     {
         self.list
     }
 
-    /// How many mappings there are.
+    /// The number of mappings.
     pub fn len(&self) -> usize
         ensures length { result ≡ length self.now }
         ensures most { result ≤ 65536 }
@@ -51,7 +51,7 @@ impl<'a> Mappings<'a> {
         self.list.len()
     }
 
-    /// The mapping of this number; None exactly where there is none.
+    /// The mapping of this number; None exactly if there is none.
     pub fn get(&self, number: usize) -> Option<&'a Mapping>
         ensures item { option_map rule_of (option_copied result) ≡ slice_get self.now number }
         ensures few { IfSome result (λ mapping. (rule_of mapping.now).existential ≤ 64) }

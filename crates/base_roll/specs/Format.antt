@@ -2,11 +2,11 @@
 use Rattle.std.specs.Prelude.{◌≡◌, ℕ, ◌<◌, ◌^◌, List, [], ◌∷◌, ◌++◌, length}
 use Rattle.std.specs.Int.{w32, to_be_bytes}
 
--- a length in 4 bytes, the greatest byte first, and so many bytes
+-- a frame: the payload's length in 4 bytes, the greatest byte first, and the payload
 unfoldable pub framed : List ℕ → List ℕ
 framed payload = to_be_bytes w32 (length payload) ++ payload
 
--- a record: an open gate, and the payload
+-- a record: an open gate, and the frame of the payload
 abbrev pub opened : List ℕ → List ℕ
 opened payload = 1 ∷ framed payload
 
@@ -14,7 +14,7 @@ abbrev pub records : List (List ℕ) → List ℕ
 records [] = []
 records (payload ∷ payloads) = opened payload ++ records payloads
 
--- what stands before the gate of a roll: what stands before the roll, and its records
+-- the bytes before the gate of a roll: those before the roll, and its records
 abbrev pub front : List ℕ → List (List ℕ) → List ℕ
 front before payloads = before ++ records payloads
 
@@ -22,7 +22,7 @@ front before payloads = before ++ records payloads
 abbrev pub roll_text : List ℕ → List (List ℕ) → List ℕ
 roll_text before payloads = front before payloads ++ (0 ∷ [])
 
--- their lengths fit 4 bytes
+-- the lengths of the payloads fit 4 bytes
 abbrev pub AreShort : List (List ℕ) → Type 0
 AreShort [] = Unit {0}
 AreShort (payload ∷ payloads) = (length payload < 2 ^ 32) × AreShort payloads

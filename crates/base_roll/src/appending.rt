@@ -1,4 +1,4 @@
-// A roll is made, and a record is appended.
+// Making a roll, and appending a record.
 ghost use Rattle.std.specs.Prelude.{◌≡◌, ◌+◌, ◌<◌, ◌≤◌, ◌^◌, ◌++◌, ◌∷◌, [], ℕ, List, length, IfOk, IfSome, IfNone, IsErrOf, OnOk};
 ghost use Rattle.base_devices.specs.States.{HasFailed, IsLeft, IsSettled};
 ghost use Rattle.base_roll.specs.Format.{roll_text};
@@ -15,8 +15,8 @@ use std::alloc::Global;
 /// The most bytes that a payload may have: its length fits 4 bytes.
 pub const PAYLOAD_LIMIT: usize = 4_294_967_295;
 
-/// Writes the text to an empty disk. At `Ok` it is on the disk, and nothing is pending. After a fault the disk reads what a crash
-/// may leave.
+/// Writes the text to an empty disk. After `Ok` it is on the disk, and nothing is pending. After a fault a read gives bytes that
+/// a crash may leave.
 pub fn create<D: Disk>(disk: &mut D, text: &[u8]) -> Result<(), DiskRefusal>
     requires empty { (D.state disk.old).bytes ≡ [] }
     requires settled { IsSettled (D.state disk.old) }
@@ -30,7 +30,7 @@ pub fn create<D: Disk>(disk: &mut D, text: &[u8]) -> Result<(), DiskRefusal>
     write_synced(disk, 0, text)
 }
 
-// The place of the gate after a payload of so many bytes; None if it is too large.
+// The place of the gate after a payload of `size` bytes; None if the payload is too large.
 fn next_gate(roll: &Roll, size: usize) -> Option<usize>
     ensures some { IfSome result (λ next. (next ≡ roll.now.gate + size + 5) × (size ≤ 4294967295)
         × (next + 1 < 2 ^ 64)) }
@@ -45,8 +45,8 @@ fn next_gate(roll: &Roll, size: usize) -> Option<usize>
     Some(roll.gate + size + 5)
 }
 
-/// Appends a record. At `Ok` it is acknowledged: from then on each crash leaves a roll that has it. A crash at any moment
-/// before leaves the roll without it, or with it.
+/// Appends a record. `Ok` acknowledges it: from then on each crash leaves a roll that has it. A crash at any earlier moment
+/// leaves the roll with or without it.
 pub fn append<D: Disk>(
     alloc: Global,
     roll: Roll,

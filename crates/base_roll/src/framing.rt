@@ -1,11 +1,11 @@
-// A length in 4 bytes, and so many bytes after it.
+// Frames: a length in 4 bytes, and that number of bytes after it.
 ghost use Rattle.std.specs.Prelude.{◌≡◌, ◌<◌, ◌≤◌, ◌^◌, ◌++◌, ◌∷◌, [], ℕ, List, length, IfOk, IfSome, IfNone, OnOk};
 ghost use Rattle.base_roll.specs.Format.{framed, opened};
 
 use def_memory::Memory;
 use std::alloc::Global;
 
-/// Adds the payload after its length.
+/// Adds the frame of the payload: its length, and the payload.
 #[tactic(auto, unfolding(crate::specs::Format::framed))]
 pub fn push_frame(text: &mut Vec<u8>, payload: &[u8]) -> Result<(), Memory>
     requires { length payload.now < 2 ^ 32 }
@@ -17,7 +17,7 @@ pub fn push_frame(text: &mut Vec<u8>, payload: &[u8]) -> Result<(), Memory>
     Ok(())
 }
 
-/// Adds an open gate and the payload after it.
+/// Adds an open gate, and the frame of the payload after it.
 pub fn push_record(text: &mut Vec<u8>, payload: &[u8]) -> Result<(), Memory>
     requires { length payload.now < 2 ^ 32 }
     ensures { OnOk result (text.new.items ≡ text.old.items ++ opened payload.now) }
@@ -26,7 +26,7 @@ pub fn push_record(text: &mut Vec<u8>, payload: &[u8]) -> Result<(), Memory>
     push_frame(text, payload)
 }
 
-/// The payload after its length, and a closed gate after it.
+/// The frame of the payload, and a closed gate after it.
 pub fn with_gate(alloc: Global, payload: &[u8]) -> Result<Vec<u8>, Memory>
     requires { length payload.now ≤ 4294967295 }
     ensures { IfOk result (λ made. made.items ≡ framed payload.now ++ (0 ∷ [])) }
@@ -37,7 +37,7 @@ pub fn with_gate(alloc: Global, payload: &[u8]) -> Result<Vec<u8>, Memory>
     Ok(record)
 }
 
-/// The payload at the front, and what stands after it; None if there is no whole one.
+/// The payload of the frame at the front, and the bytes after the frame; None if there is no whole frame.
 pub fn split_frame(bytes: &[u8]) -> Option<(&[u8], &[u8])>
     ensures some { IfSome result (λ parts. bytes.now ≡ framed parts.0.now ++ parts.1.now) }
     ensures short { IfSome result (λ parts. length parts.0.now < 2 ^ 32) }

@@ -6,14 +6,14 @@ ghost use Rattle.base_roll.specs.Histories.{InHand, IsAtRest, IsHistory, IsKept,
 
 use base_devices::Disk;
 
-/// Bytes have one roll at most after the first ones.
+/// After the same first bytes, bytes have at most one roll.
 pub fn rolls_have_one_reading()
     ensures { (before : List ℕ) (payloads others : List (List ℕ)) (bytes : List ℕ)
         → IsRoll before payloads bytes → IsRoll before others bytes → payloads ≡ others }
 {}
 
-/// Over any list of appends, each with any faults of the disk, and a crash at any moment of any of them: what is left is
-/// a roll that has each record which was acknowledged by then, in order, and none that was not handed in.
+/// For any list of appends, with any faults of the disk, and a crash at any moment: the bytes left are a roll that has each
+/// record acknowledged by then, in order, and no record that was not handed in.
 pub fn crashes_keep_what_is_acknowledged<D: Disk>()
     ensures { (before : List ℕ) (payloads : List (List ℕ)) (start : D)
         (turns : List (Turn (List ℕ) D)) (k : ℕ) (bytes : List ℕ)
@@ -26,9 +26,9 @@ pub fn crashes_keep_what_is_acknowledged<D: Disk>()
     rolls_have_one_reading();
 }
 
-/// The same over the lives of many processes, each of which opens what the one before it left, and is ended at any moment:
-/// what is left is a roll that has each record which any of them acknowledged, in order, and of each process at most one
-/// record more than it acknowledged, unless a fault of the disk broke more of its appends.
+/// For the lives of many processes, each of which opens the bytes that the one before it left, and is ended at any moment: the
+/// bytes left are a roll that has, in order, each record that any of them acknowledged. Of each process it has at most one record
+/// more than it acknowledged, unless faults of the disk broke more of its appends.
 pub fn processes_keep_what_is_acknowledged<D: Disk>()
     ensures { (before : List ℕ) (payloads : List (List ℕ)) (found : List ℕ)
         (lives : List (Life (List ℕ) D)) (left : List ℕ) → IsRoll before payloads found

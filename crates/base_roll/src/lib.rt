@@ -1,5 +1,6 @@
-//! A roll of records on a disk, which survives a crash at any moment. A record is any bytes: `{1 FRAME} GATE`, a frame being a
-//! length in 4 bytes, the greatest first, and so many bytes; the gate any byte but 1. What stands before and after is free.
+//! A roll of records on a disk, which survives a crash at any moment. A record is any bytes. The format is `{1 FRAME} GATE`: a
+//! frame is a length in 4 bytes, the greatest first, and that number of bytes; the gate is any byte except 1. Any bytes may stand
+//! before and after a roll.
 #![tactic(auto)]
 
 mod appending;

@@ -6,8 +6,7 @@ ghost use Rattle.base_roll.specs.Logging.{IsBeingLogged, opened_at};
 
 use base_devices::{Disk, DiskRefusal};
 
-/// Writes the bytes at the place, and makes them last. A crash meanwhile leaves the old bytes with a
-/// part of the write.
+/// Writes the bytes at the place, and syncs them. A crash meanwhile leaves the old bytes with a part of the write.
 pub(crate) fn write_synced<D: Disk>(
     disk: &mut D,
     at: usize,
@@ -31,8 +30,7 @@ pub(crate) fn write_synced<D: Disk>(
     disk.sync()
 }
 
-/// Puts the text of a record after the gate at the place, and then opens the gate. Each of the two writes lasts
-/// before what comes next.
+/// Puts the text of a record after the gate, and then opens the gate. Each of the two writes is synced before the next call.
 pub(crate) fn log_record<D: Disk>(disk: &mut D, gate: usize, text: &[u8]) -> Result<(), DiskRefusal>
     requires gate { gate < length (D.state disk.old).bytes }
     requires settled { IsSettled (D.state disk.old) }

@@ -1,4 +1,4 @@
-// The bytes of a disk are read.
+// Reading the bytes of a disk.
 ghost use Rattle.std.specs.Prelude.{◌≡◌, ◌≤◌, IfOk, OnOk, IsErrOf};
 ghost use Rattle.base_devices.specs.States.{HasFailed, IsSettled};
 ghost use Rattle.base_roll.specs.Histories.{IsReading};
@@ -6,7 +6,7 @@ ghost use Rattle.base_roll.specs.Histories.{IsReading};
 use base_devices::{Disk, DiskRefusal};
 use std::alloc::Global;
 
-/// Makes what was written last, and loads the bytes. It writes nothing.
+/// Syncs the disk, and loads its bytes. It writes nothing.
 pub fn load_synced<D: Disk>(alloc: Global, disk: &mut D) -> Result<Vec<u8>, DiskRefusal>
     ensures bytes { IfOk result (λ all. all.items ≡ (D.state disk.old).bytes) }
     ensures reads { IsReading (D.state disk.old) (D.state disk.new) }

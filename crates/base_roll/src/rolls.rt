@@ -1,8 +1,8 @@
-// What is held of a roll, and why a record is not acknowledged.
+// A roll in hand, and why a record is not acknowledged.
 
 use std::marker::Model;
 
-/// What is held of a roll on a disk: the place of its gate.
+/// A roll in hand: the place of its gate on the disk.
 #[derive(Debug, Drop)]
 pub struct Roll {
     pub(crate) gate: usize,
@@ -34,16 +34,16 @@ impl Roll {
     }
 }
 
-/// Why a record is not acknowledged. After a fault of the disk or its want of memory the record may be in the roll or not, and
-/// the roll is read again before anything is appended to it.
+/// Why a record is not acknowledged. After `DiskFault` and `DiskMemory` the record may be in the roll or not, so the roll must be
+/// read again before the next append.
 #[derive(Debug, Drop)]
 pub enum AppendFault {
-    /// The record has so many bytes, which are too many. The roll and the disk are unchanged.
+    /// The record has this number of bytes, which is too large. The roll and the disk are unchanged.
     TooLarge(Roll, u64),
     /// The disk failed.
     DiskFault,
-    /// Memory for a call of the disk was wanting.
+    /// There was not enough memory for a call of the disk.
     DiskMemory,
-    /// Memory was wanting before the first call of the disk. The roll and the disk are unchanged.
+    /// There was not enough memory before the first call of the disk. The roll and the disk are unchanged.
     Memory(Roll),
 }

@@ -1,4 +1,4 @@
--- Entries in the order of their keys, and how a key is looked for among them.
+-- Entries in the order of their keys, and searches for a key among them.
 use Rattle.std.specs.Prelude.{Bool, not, ◌&&◌, List, filter, find, Option}
 use Rattle.std.specs.Option.{option_map}
 use Rattle.std.specs.declared.cmp.Ordering.{Ordering}
@@ -18,7 +18,7 @@ is_sought place passes e = is_eq (place e.0) && passes e
 abbrev pub reached : {K V : Type 0} → (K → Bool) → List (K × V) → List (K × V)
 reached p es = filter (is_reached p) es
 
--- The first of them.
+-- The first entry whose key passes the test.
 abbrev pub first_reached : {K V : Type 0} → (K → Bool) → List (K × V) → Option (K × V)
 first_reached p es = find (is_reached p) es
 
@@ -35,7 +35,7 @@ module _ {K V : Type 0} (R : K → K → Ordering) where
   abbrev pub is_at : K → K × V → Bool
   is_at k e = is_eq (R k e.0)
 
-  -- The entries without that at the key.
+  -- The entries without the one at the key.
   abbrev pub without : K → List (K × V) → List (K × V)
   without k es = filter (λ e. not (is_at k e)) es
 

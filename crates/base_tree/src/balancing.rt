@@ -1,4 +1,4 @@
-//! How a node keeps the heights of its two sides near to each other. None of it changes the entries.
+//! Rebalancing: a node keeps the heights of its two sides close to each other. The entries never change.
 ghost use Rattle.std.specs.Prelude.{◌≡◌};
 ghost use Rattle.base_tree.specs.Nodes.{entries};
 
@@ -33,7 +33,7 @@ impl<K: Share, V: Share> Node<K, V> {
             .saturating_add(1);
     }
 
-    // Brings the heights of both sides nearer to each other. For want of memory they stay as they are.
+    // Brings the heights of both sides closer to each other. If memory runs out, they stay as they are.
     pub(crate) fn balance(&mut self)
         ensures same { entries self.new ≡ entries self.old }
     {
@@ -48,7 +48,7 @@ impl<K: Share, V: Share> Node<K, V> {
         self.measure();
     }
 
-    // Balances where the height of a side is no longer what it was.
+    // Rebalances if the height of a side has changed from `was` to another value.
     #[inline]
     pub(crate) fn settle(&mut self, was: u8, is: u8)
         ensures same { entries self.new ≡ entries self.old }
@@ -58,7 +58,7 @@ impl<K: Share, V: Share> Node<K, V> {
         }
     }
 
-    // The left side's node comes up.
+    // Rotates the left side's node up to the top.
     fn lift_left(&mut self)
         ensures same { entries self.new ≡ entries self.old }
     {
@@ -77,7 +77,7 @@ impl<K: Share, V: Share> Node<K, V> {
         self.right = Branch { node: Some(shared) };
     }
 
-    // The right side's node comes up.
+    // Rotates the right side's node up to the top.
     fn lift_right(&mut self)
         ensures same { entries self.new ≡ entries self.old }
     {
@@ -96,7 +96,7 @@ impl<K: Share, V: Share> Node<K, V> {
         self.left = Branch { node: Some(shared) };
     }
 
-    // Makes the left side's outer side no lower than its inner.
+    // Makes the outer side of the left side no lower than its inner side.
     fn straighten_left(&mut self)
         ensures same { entries self.new ≡ entries self.old }
     {
@@ -112,7 +112,7 @@ impl<K: Share, V: Share> Node<K, V> {
         }
     }
 
-    // Makes the right side's outer side no lower than its inner.
+    // Makes the outer side of the right side no lower than its inner side.
     fn straighten_right(&mut self)
         ensures same { entries self.new ≡ entries self.old }
     {

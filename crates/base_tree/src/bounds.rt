@@ -1,11 +1,11 @@
-//! What is known of where keys lie, before they are looked at.
+//! Facts about where the keys of a subtree lie, known before the keys are looked at.
 ghost use Rattle.std.specs.Prelude.{◌≡◌, true, false};
 ghost use Rattle.base_tree.specs.Bounds.{KeepsWithin};
 
 use crate::searches::Search;
 use std::cmp::Ordering;
 
-/// Whether it is known that no key lies before the zone, and that none lies past it.
+/// Whether it is known that no key lies before the zone (`low`), and that none lies after it (`high`).
 #[derive(Clone, Copy)]
 pub(crate) struct Bounds {
     pub(crate) low: bool,
@@ -13,7 +13,7 @@ pub(crate) struct Bounds {
 }
 
 impl Bounds {
-    /// Nothing is known.
+    /// The bounds if nothing is known.
     pub(crate) fn none() -> Bounds
         ensures low { result.low ≡ false }
         ensures high { result.high ≡ false }
@@ -24,7 +24,7 @@ impl Bounds {
         }
     }
 
-    /// What is known of keys below one in the zone.
+    /// The bounds of the keys below a key in the zone.
     pub(crate) fn below(self) -> Bounds
         ensures low { result.low ≡ self.low }
         ensures high { result.high ≡ true }
@@ -35,7 +35,7 @@ impl Bounds {
         }
     }
 
-    /// What is known of keys above one in the zone.
+    /// The bounds of the keys above a key in the zone.
     pub(crate) fn above(self) -> Bounds
         ensures low { result.low ≡ true }
         ensures high { result.high ≡ self.high }
@@ -47,7 +47,7 @@ impl Bounds {
     }
 }
 
-/// Where the key lies, which keeps within the bounds.
+/// Whether the key lies before, in or after the zone. The key must keep within the bounds, which may spare the comparison.
 pub(crate) fn place_within<K: Ord, V, S: Search<K, V>>(
     search: &S,
     bounds: Bounds,

@@ -23,7 +23,7 @@ pub struct Branch<K, V> {
     pub(crate) node: Option<Arc<Node<K, V>>>,
 }
 
-// A node: what comes before its entry, the entry, and what comes after it.
+// A node: the entries before its own entry, its own entry, and the entries after it.
 #[cycle(branch)]
 #[derive(Drop)]
 pub(crate) struct Node<K, V> {
@@ -70,7 +70,7 @@ impl<K: Drop, V: Drop> Branch<K, V> {
         }
     }
 
-    // How many nodes lie on the longest way down, as the nodes note it.
+    // The number of nodes on the longest way down, as the nodes note it.
     #[inline]
     pub(crate) fn height(&self) -> u8 {
         match &self.node {
@@ -108,7 +108,7 @@ impl<K: Drop, V: Drop> Branch<K, V> {
         Ok(Branch { node: Some(node) })
     }
 
-    // The tree of one entry. For want of memory the entry comes back.
+    // The tree of one entry. If it is refused, it hands the entry back.
     pub(crate) fn single(alloc: Global, key: K, value: V) -> Result<Branch<K, V>, (K, V)>
         ensures ok { IfOk result (λ b. b ≡ (key, value) ∷ []) }
         ensures given_back { IfErr result (λ e. e ≡ (key, value)) }
@@ -149,7 +149,7 @@ impl<K: Ord + Share, V: Share> Branch<K, V> {
         None
     }
 
-    /// The entry at the key that is sought.
+    /// The entry at the key that `sought` stands for.
     pub fn find_at<S: Sought<K>>(&self, sought: &S) -> Option<&(K, V)>
         requires { IsOrdered K.cmp self.now }
         ensures { option_copied result ≡ entry_at K.cmp (S.key sought.now) self.now }
@@ -166,7 +166,7 @@ impl<K: Ord + Share, V: Share> Branch<K, V> {
         None
     }
 
-    /// The first entry that the cut does not leave behind.
+    /// The first entry after the cut.
     pub fn seek<C: Cut<K>>(&self, cut: &C) -> Option<&(K, V)>
         requires { IsOrdered K.cmp self.now }
         ensures { option_copied result ≡ first_reached (C.reaches cut.now) self.now }
@@ -185,7 +185,7 @@ impl<K: Ord + Share, V: Share> Branch<K, V> {
         best
     }
 
-    /// The first entry that is sought.
+    /// The first entry that the search looks for.
     pub fn find_in<S: Search<K, V>>(&self, search: &S) -> Option<&(K, V)>
         requires { IsOrdered K.cmp self.now }
         ensures { option_copied result ≡
@@ -210,7 +210,7 @@ impl<K: Ord + Share, V: Share> Branch<K, V> {
         }
     }
 
-    /// Adds what is shown of the first entries that are sought, of as many as there is room for. The keys are known to keep
+    /// Adds the shown parts of the first entries that the search looks for, as many as there is room for. The keys must keep
     /// within the bounds.
     pub(crate) fn gather<'a, T, S: Search<K, V> + Show<K, V, T>>(
         &'a self,
@@ -242,7 +242,7 @@ impl<K: Ord + Share, V: Share> Branch<K, V> {
     }
 }
 
-// Puts what is shown of the entry behind what was found, where the entry passes.
+// Adds the shown part of the entry, if the entry passes.
 fn add_passing<'a, K: Ord, V, T, S: Search<K, V> + Show<K, V, T>>(
     search: &S,
     entry: &'a (K, V),

@@ -1,4 +1,4 @@
-// Trees are Send and Sync, where keys and values are.
+// Trees are Send and Sync if their keys and values are.
 
 use crate::branch::Branch;
 use crate::cursors::Cursor;

@@ -1,4 +1,4 @@
-//! Cursors: places among the entries, from which one steps on.
+//! Cursors: places among the entries, from which a caller steps on.
 ghost use Rattle.std.specs.Prelude.{◌≡◌, [], ◌++◌, IfNone};
 ghost use Rattle.std.specs.Option.{option_copied, option_to_list};
 ghost use Rattle.base_tree.specs.Orders.{IsOrdered, reached};
@@ -10,10 +10,10 @@ use crate::shares::Share;
 use arrayvec::ArrayVec;
 use std::marker::Model;
 
-// The nodes whose entries, and what is behind them, are still to come; the last comes first.
+// The nodes whose own entry and right side are still to come; the last node comes first.
 type Path<'a, K, V> = ArrayVec<Option<&'a Node<K, V>>, 32>;
 
-// A tree for which the path had no room: it, and the next of its entries.
+// A tree for which the path had no room, with the next of its entries.
 type Deep<'a, K, V> = Option<(&'a Branch<K, V>, &'a (K, V))>;
 
 /// A place among the entries of a map. Contracts see the entries that are still to come.
@@ -34,7 +34,7 @@ impl<'a, K: Ord, V> Model for Cursor<'a, K, V> {
     ghost invariant = { λ c. IsPath K.cmp c.path.items × IsDeep K.cmp c.deep };
 }
 
-// What of the tree comes behind the cut.
+// The entries of the tree after the cut.
 fn deep_from<'a, K: Ord + Share, V: Share, C: Cut<K>>(
     branch: &'a Branch<K, V>,
     cut: &C,
@@ -49,7 +49,7 @@ fn deep_from<'a, K: Ord + Share, V: Share, C: Cut<K>>(
     }
 }
 
-// Puts what of the tree comes behind the cut before what the path has.
+// Puts the entries of the tree after the cut before those that the path has.
 fn descend<'a, K: Ord + Share, V: Share, C: Cut<K>>(
     path: &mut Path<'a, K, V>,
     branch: &'a Branch<K, V>,
@@ -79,7 +79,7 @@ fn descend<'a, K: Ord + Share, V: Share, C: Cut<K>>(
 }
 
 impl<'a, K: Ord + Share, V: Share> Cursor<'a, K, V> {
-    /// At no place: nothing is still to come.
+    /// A cursor with nothing to come.
     pub fn new() -> Cursor<'a, K, V>
         ensures empty { result ≡ [] }
     {
@@ -89,7 +89,7 @@ impl<'a, K: Ord + Share, V: Share> Cursor<'a, K, V> {
         }
     }
 
-    /// Puts the cursor before the first entry behind the cut.
+    /// Puts the cursor before the first entry after the cut.
     pub(crate) fn place<C: Cut<K>>(&mut self, branch: &'a Branch<K, V>, cut: &C)
         requires { IsOrdered K.cmp branch.now }
         ensures { self.new ≡ reached (C.reaches cut.now) branch.now }
@@ -98,7 +98,7 @@ impl<'a, K: Ord + Share, V: Share> Cursor<'a, K, V> {
         self.deep = descend(&mut self.path, branch, cut);
     }
 
-    /// The next entry, where there is one.
+    /// The next entry, if there is one.
     pub fn next(&mut self) -> Option<&'a (K, V)>
         ensures step { self.old ≡ option_to_list (option_copied result) ++ self.new }
         ensures end { IfNone result (self.old ≡ []) }

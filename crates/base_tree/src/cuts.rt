@@ -1,15 +1,15 @@
-//! Where a walk over the entries begins.
+//! Cuts: where a walk over the entries begins.
 ghost use Rattle.std.specs.Prelude.{◌≡◌, Bool, true, refl};
 ghost use Rattle.std.specs.Ordering.{is_lt, is_le};
 ghost use Rattle.std.specs.declared.cmp.Ordering.{Ordering};
 ghost use Rattle.std.specs.declared.cmp.Ordering.TheVariants.{Less};
 ghost use Rattle.base_tree.specs.Rising.{lt_rises, le_rises};
 
-/// A cut through the keys: those that it reaches come after all others.
+/// A cut through the keys: the keys that it reaches come after all others.
 pub trait Cut<K: Ord> {
     ghost reaches: { Self → K → Bool };
 
-    /// Whether the key lies behind the cut.
+    /// Whether the key lies after the cut.
     fn reaches(&self, key: &K) -> bool
         ensures { result ≡ reaches self.now key.now };
 
@@ -17,7 +17,7 @@ pub trait Cut<K: Ord> {
         ≡ true };
 }
 
-/// Before all keys.
+/// The cut before all keys.
 #[derive(Drop)]
 pub struct Start;
 
@@ -31,7 +31,7 @@ impl<K: Ord> Cut<K> for Start {
     }
 }
 
-/// Behind a key: what is reached is above it.
+/// The cut after a key: it reaches the keys above that one.
 #[derive(Drop)]
 pub struct Above<'k, K: Ord>(pub &'k K);
 
@@ -45,7 +45,7 @@ impl<'k, K: Ord> Cut<K> for Above<'k, K> {
     }
 }
 
-/// Before a key: what is reached is the key or above it.
+/// The cut before a key: it reaches that key and the keys above it.
 #[derive(Drop)]
 pub struct AtLeast<'k, K: Ord>(pub &'k K);
 

@@ -1,4 +1,4 @@
-//! Putting entries in and taking them out. A node that no other tree shares is changed in place.
+//! Insertions and removals of entries. A node that no other tree shares is changed in place.
 ghost use Rattle.std.specs.Prelude.{◌≡◌, [], ◌++◌, IfOk, OnOk, OnErr, IfErr};
 ghost use Rattle.std.specs.Option.{option_to_list};
 ghost use Rattle.std.specs.BTreeMap.{insert_entry};
@@ -12,8 +12,8 @@ use std::mem;
 use std::sync::Arc;
 
 impl<K: Ord + Share, V: Share> Branch<K, V> {
-    /// Puts the value at the key, and gives the value that was there. For want of memory both come back, and the
-    /// entries are as they were.
+    /// Puts the value at the key, and returns the value that was there. If it is refused, it hands both back, and the entries are
+    /// unchanged.
     pub fn put(&mut self, alloc: Global, key: K, value: V) -> Result<Option<V>, (K, V)>
         requires { IsOrdered K.cmp self.old }
         ensures ok { OnOk result (self.new ≡ insert_entry K.cmp self.old key value) }
@@ -47,7 +47,7 @@ impl<K: Ord + Share, V: Share> Branch<K, V> {
         }
     }
 
-    // Takes the first entry out, where there is one. For want of memory the entries are as they were.
+    // Removes the first entry and returns it, if there is one. If it is refused, the entries are unchanged.
     fn pop_first(&mut self) -> Result<Option<(K, V)>, AllocError>
         ensures ok { IfOk result (λ e. self.old ≡ option_to_list e ++ self.new) }
         ensures none { IfOk result (λ e. e ≡ None → self.new ≡ []) }
@@ -72,7 +72,7 @@ impl<K: Ord + Share, V: Share> Branch<K, V> {
         }
     }
 
-    /// Takes the entry at the key out. For want of memory the entries are as they were.
+    /// Removes the entry at the key. If it is refused, the entries are unchanged.
     pub fn remove(&mut self, key: &K) -> Result<(), AllocError>
         requires { IsOrdered K.cmp self.old }
         ensures ok { OnOk result (self.new ≡ without K.cmp key.now self.old) }

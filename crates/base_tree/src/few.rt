@@ -1,4 +1,4 @@
-//! A few items that were found side by side, given one by one.
+//! A few items that were found together, given one by one.
 ghost use Rattle.std.specs.Prelude.{◌≡◌, ◌==◌, ◌≤◌, [], ◌∷◌, ◌++◌, IfNone};
 ghost use Rattle.std.specs.Option.{option_copied, option_to_list};
 ghost use Rattle.base_tree.specs.Few.{no_item, with_first};
@@ -6,7 +6,8 @@ ghost use Rattle.base_tree.specs.Few.{no_item, with_first};
 use arrayvec::ArrayVec;
 use std::marker::Model;
 
-/// At most six items, which are given one by one. Contracts see those still to be given, and how many more there is room for.
+/// At most six items, which are given one by one. Contracts see the items still to be given, and the number of further items that
+/// there is room for.
 #[derive(Drop)]
 pub struct Few<'a, T> {
     items: ArrayVec<Option<&'a T>, 6>,
@@ -29,7 +30,7 @@ impl<'a, T> Model for Few<'a, T> {
 }
 
 impl<'a, T> Few<'a, T> {
-    /// No item. It takes no memory.
+    /// A batch without items.
     pub fn new() -> Few<'a, T>
         ensures none { result ≡ no_item }
     {
@@ -46,7 +47,7 @@ impl<'a, T> Few<'a, T> {
         self.items.is_full()
     }
 
-    /// Puts an item behind the others.
+    /// Adds an item after the others.
     pub fn push(&mut self, item: &'a T)
         requires room { 1 ≤ self.old.room }
         ensures behind { self.new ≡ with_first self.old (item.now ∷ []) }
@@ -54,7 +55,7 @@ impl<'a, T> Few<'a, T> {
         self.items.push(Some(item));
     }
 
-    /// The next item, where there is one.
+    /// The next item, if there is one.
     pub fn next(&mut self) -> Option<&'a T>
         ensures step { self.old.left ≡ option_to_list (option_copied result) ++ self.new.left }
         ensures room { self.new.room ≡ self.old.room }

@@ -1,4 +1,4 @@
-//! Persistent ordered maps and sets: another handle costs nothing, and stays as it is whatever is done to the first.
+//! Persistent ordered maps and sets: another handle costs nothing, and keeps its entries whatever is done to the first.
 #![tactic(auto)]
 
 mod balancing;

@@ -17,8 +17,8 @@ use std::marker::Model;
 
 /// An ordered map. Contracts see the list of its entries, in the order of their keys.
 ///
-/// `share` gives another handle at once. Two handles stand for two maps: what is put into one is not in the other. What
-/// both have in common is kept once, and copied only along the way to a change.
+/// `share` gives another handle at once. Two handles are two maps: a change to one is not seen in the other. The nodes that both
+/// have in common are kept once; a change copies only those on the way to it.
 #[derive(Drop)]
 pub struct TreeMap<K: Ord, V> {
     entries: Branch<K, V>,
@@ -38,7 +38,7 @@ impl<K: Ord, V> Model for TreeMap<K, V> {
 }
 
 impl<K: Ord + Share, V: Share> TreeMap<K, V> {
-    /// The empty map. It takes no memory.
+    /// The empty map.
     pub fn new() -> TreeMap<K, V>
         ensures empty { result ≡ [] }
         ensures in_order { IsOrdered K.cmp result }
@@ -49,7 +49,7 @@ impl<K: Ord + Share, V: Share> TreeMap<K, V> {
         }
     }
 
-    /// How many entries there are.
+    /// The number of entries.
     pub fn len(&self) -> usize
         ensures length { result ≡ length self.now }
     {
@@ -64,7 +64,7 @@ impl<K: Ord + Share, V: Share> TreeMap<K, V> {
         self.entries.get(key)
     }
 
-    /// The entry at the key that is sought.
+    /// The entry at the key that `sought` stands for.
     pub fn find_at<S: Sought<K>>(&self, sought: &S) -> Option<&(K, V)>
         ensures found { option_copied result ≡ entry_at K.cmp (S.key sought.now) self.now }
         ensures in_order { IsOrdered K.cmp self.now }
@@ -72,7 +72,7 @@ impl<K: Ord + Share, V: Share> TreeMap<K, V> {
         self.entries.find_at(sought)
     }
 
-    /// The first entry behind the cut.
+    /// The first entry after the cut.
     pub fn seek<C: Cut<K>>(&self, cut: &C) -> Option<&(K, V)>
         ensures found { option_copied result ≡ first_reached (C.reaches cut.now) self.now }
         ensures in_order { IsOrdered K.cmp self.now }
@@ -80,7 +80,7 @@ impl<K: Ord + Share, V: Share> TreeMap<K, V> {
         self.entries.seek(cut)
     }
 
-    /// The first entry that is sought.
+    /// The first entry that the search looks for.
     pub fn find_in<S: Search<K, V>>(&self, search: &S) -> Option<&(K, V)>
         ensures found { option_copied result ≡
             first_sought (S.place search.now) (S.passes search.now) self.now }
@@ -89,7 +89,7 @@ impl<K: Ord + Share, V: Share> TreeMap<K, V> {
         self.entries.find_in(search)
     }
 
-    /// What is shown of the first entries that are sought: of all of them, or of as many as there is room for.
+    /// The shown parts of the first entries that the search looks for: of all, or of as many as the result has room for.
     pub fn gather<T, S: Search<K, V> + Show<K, V, T>>(&self, search: &S) -> Few<'_, T>
         ensures first { result ≡ with_first no_item
             (all_shown S.shown (S.place search.now) (S.passes search.now) self.now) }
@@ -100,7 +100,7 @@ impl<K: Ord + Share, V: Share> TreeMap<K, V> {
         found
     }
 
-    /// A cursor before the first entry behind the cut.
+    /// A cursor before the first entry after the cut.
     pub fn cursor<C: Cut<K>>(&self, cut: &C) -> Cursor<'_, K, V>
         ensures rest { result ≡ reached (C.reaches cut.now) self.now }
         ensures in_order { IsOrdered K.cmp self.now }
@@ -110,7 +110,7 @@ impl<K: Ord + Share, V: Share> TreeMap<K, V> {
         cursor
     }
 
-    /// Puts a cursor before the first entry behind the cut. It costs less than another cursor.
+    /// Puts a cursor before the first entry after the cut. It costs less than a new cursor.
     pub fn place<'a, C: Cut<K>>(&'a self, cursor: &mut Cursor<'a, K, V>, cut: &C)
         ensures rest { cursor.new ≡ reached (C.reaches cut.now) self.now }
         ensures in_order { IsOrdered K.cmp self.now }
@@ -118,8 +118,8 @@ impl<K: Ord + Share, V: Share> TreeMap<K, V> {
         cursor.place(&self.entries, cut);
     }
 
-    /// Puts the value at the key, where an equal key stays, and gives the value that was there. For want of memory, or of
-    /// numbers to count more entries, both come back, and the entries are as they were.
+    /// Puts the value at the key, and returns the value that was there. An equal key stays. If memory runs out, or the count of
+    /// entries would overflow, it hands both back, and the entries are unchanged.
     pub fn put(&mut self, alloc: Global, key: K, value: V) -> Result<Option<V>, (K, V)>
         ensures ok { OnOk result (self.new ≡ insert_entry K.cmp self.old key value) }
         ensures before { IfOk result (λ before. before ≡ value_at K.cmp key self.old) }
@@ -139,7 +139,7 @@ impl<K: Ord + Share, V: Share> TreeMap<K, V> {
         }
     }
 
-    /// Takes the entry at the key out, and tells whether there was one. For want of memory the entries are as they were.
+    /// Removes the entry at the key, and returns whether there was one. If it is refused, the entries are unchanged.
     pub fn remove(&mut self, key: &K) -> Result<bool, AllocError>
         ensures ok { OnOk result (self.new ≡ without K.cmp key.now self.old) }
         ensures changed { IfOk result (λ b. b ≡ is_some (entry_at K.cmp key.now self.old)) }

@@ -28,7 +28,7 @@ impl<K: Ord> Model for TreeSet<K> {
 }
 
 impl<K: Ord + Share> TreeSet<K> {
-    /// The empty set. It takes no memory.
+    /// The empty set.
     pub fn new() -> TreeSet<K>
         ensures empty { result ≡ [] }
     {
@@ -37,7 +37,7 @@ impl<K: Ord + Share> TreeSet<K> {
         }
     }
 
-    /// How many keys there are.
+    /// The number of keys.
     pub fn len(&self) -> usize
         ensures length { result ≡ length self.now }
     {
@@ -55,7 +55,7 @@ impl<K: Ord + Share> TreeSet<K> {
         }
     }
 
-    /// The first key behind the cut.
+    /// The first key after the cut.
     pub fn seek<C: Cut<K>>(&self, cut: &C) -> Option<&K>
         ensures found { option_copied result ≡ find (C.reaches cut.now) self.now }
         ensures in_order { IsStrictlySortedBy K.cmp self.now }
@@ -66,8 +66,8 @@ impl<K: Ord + Share> TreeSet<K> {
         }
     }
 
-    /// Puts the key in, unless an equal one is there, and tells whether it is new. For want of memory it comes back, and
-    /// the keys are as they were.
+    /// Inserts the key, unless an equal one is there, and returns whether it is new. If it is refused, it hands the key back, and
+    /// the keys are unchanged.
     pub fn insert(&mut self, alloc: Global, key: K) -> Result<bool, K>
         ensures ok { OnOk result (self.new ≡ insert_key K.cmp self.old key) }
         ensures changed { IfOk result
@@ -81,7 +81,7 @@ impl<K: Ord + Share> TreeSet<K> {
         }
     }
 
-    /// Takes the key out, and tells whether it was there. For want of memory the keys are as they were.
+    /// Removes the key, and returns whether it was there. If it is refused, the keys are unchanged.
     pub fn remove(&mut self, key: &K) -> Result<bool, AllocError>
         ensures ok { OnOk result (self.new ≡ filter (λ x. not (is_eq (K.cmp key.now x))) self.old) }
         ensures changed { IfOk result (λ b. b ≡ list_any (λ x. is_eq (K.cmp key.now x)) self.old) }

@@ -4,9 +4,9 @@ ghost use Rattle.std.specs.Prelude.{◌≡◌, IfOk};
 use std::alloc::AllocError;
 use std::cmp::Reverse;
 
-/// What further handles can be had of. A handle is equal to the value.
+/// A value of which further handles can be made. A handle is equal to the value.
 pub trait Share: Drop {
-    /// A further handle. It may be refused.
+    /// A further handle to the value.
     fn share(&self) -> Result<Self, AllocError>
         ensures same { IfOk result (λ copy. copy ≡ self.now) };
 }

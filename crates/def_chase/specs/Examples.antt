@@ -1,4 +1,4 @@
--- Small values of the definitions, written out, so that a definition which says something else is seen.
+-- Small values of the definitions, written out, so that a wrong definition shows.
 use Rattle.std.specs.Prelude.{◌≡◌, ℕ, pos, negsuc, true, false, List, [], ◌∷◌, Some, None, codes}
 use Rattle.std.specs.declared.cmp.Ordering.TheVariants.{Less, Greater}
 use Rattle.def_chase.specs.Values.{Datum, Number, Text, Unknown, Fact, datum_cmp, fact_cmp, outer, under}
@@ -63,7 +63,7 @@ pub record ValuesWorked : Type 0 where
   pub words_last : datum_cmp (Text []) (num 9) ≡ Greater
   pub by_bytes : datum_cmp (Text (codes "ab")) (Text (codes "b")) ≡ Less
   pub nulls_last : datum_cmp (Text (codes "z")) (null 0 1) ≡ Less
-  -- An earlier place comes first, though its attempt is later.
+  -- An earlier place comes first, even if its attempt is later.
   pub place_first : datum_cmp (null_by 5 1 1) (null_by 0 1 2) ≡ Less
   pub attempts_count : datum_cmp (null_by 1 1 1) (null_by 0 1 1) ≡ Greater
   pub relation_first : fact_cmp (A (null 3 3)) (B (num 0) (num 0)) ≡ Less
@@ -88,7 +88,7 @@ pub record MappingsWorked : Type 0 where
   pub other_nulls : first_violation Every [] turned (R (null 0 1) (null 0 2) ∷ R (null 0 2) (null_by 1 0 1) ∷ []) ≡ None
   pub caused_forward : first_violation (Caused Forward) (Insert (A (num 2)) ∷ []) one (A (num 1) ∷ A (num 2) ∷ []) ≡ Some (A (num 2) ∷ [])
   pub not_caused : first_violation (Caused Forward) (Insert (A (num 1)) ∷ Delete (A (num 1)) ∷ []) one (A (num 1) ∷ A (num 2) ∷ []) ≡ None
-  -- A deletion of some B(2, ..) causes the violation of 2 alone.
+  -- A deletion of a B(2, ..) causes only the violation of 2.
   pub caused_backward : first_violation (Caused Backward) (Delete (B (num 2) (num 8)) ∷ []) one (A (num 1) ∷ A (num 2) ∷ []) ≡ Some (A (num 2) ∷ [])
   pub extension : extends (learn nothing_known 0 (num 1)) one.right (B (num 1) (num 9) ∷ []) ≡ true
   pub no_extension : extends (learn nothing_known 0 (num 2)) one.right (B (num 1) (num 9) ∷ []) ≡ false
@@ -113,7 +113,7 @@ pub record UnifierWorked : Type 0 where
   pub chain : under (unifier (T (null 0 1) (null 0 2) (null 0 3)) (T (null 0 2) (null 0 3) (num 5))) (T (null 0 1) (null 0 2) (null 0 3)) ≡ T (num 5) (num 5) (num 5)
   -- A walk into a cycle ends at the least null of the cycle, not of the walk.
   pub into_cycle : under (unifier (T (null 0 1) (null 0 2) (null 0 3)) (T (null 0 3) (null 0 3) (null 0 2))) (T (null 0 1) (null 0 2) (null 0 3)) ≡ T (null 0 2) (null 0 2) (null 0 2)
-  -- Also where the walk goes a long way to the cycle.
+  -- Also if the walk goes a long way to the cycle.
   pub long_way : unifier (fact 4 (null 0 1 ∷ null 0 2 ∷ null 0 3 ∷ null 0 4 ∷ [])) (fact 4 (null 0 2 ∷ null 0 3 ∷ null 0 4 ∷ null 0 3 ∷ [])) (null 0 1) ≡ null 0 3
   pub others_stay : unifier (R (null 0 1) (num 2)) (R (num 1) (num 2)) (null 0 7) ≡ null 0 7
 
@@ -127,7 +127,7 @@ pub record QueriesWorked : Type 0 where
   pub occurrences : value [] (Occurs 1 2) (A (null_by 3 1 2) ∷ R (num 1) (null 1 1) ∷ R (null 0 2) (num 1) ∷ R (null 1 2) (num 1) ∷ []) [] Every ≡ Tuples (A (null_by 3 1 2) ∷ R (null 1 2) (num 1) ∷ [])
   pub violation : value (one ∷ []) (Violation 0) (A (num 1) ∷ []) [] Every ≡ Image (A (num 1) ∷ [])
   pub none_caused : value (one ∷ []) (Violation 0) (A (num 1) ∷ []) [] (Caused Forward) ≡ Nothing
-  -- A mapping that the own writes put in force is looked at whole.
+  -- If the own writes put a mapping in force, all its violations count.
   pub looked_whole : value (one ∷ []) (Violation 0) (A (num 1) ∷ []) (Insert (force 0) ∷ []) (Caused Forward) ≡ Image (A (num 1) ∷ [])
   pub no_mapping : value (one ∷ []) (Violation 1) (A (num 1) ∷ []) [] Every ≡ Nothing
   pub mentions_right : mentions (one ∷ []) (Violation 0) 1 ≡ true

@@ -28,7 +28,8 @@ pub record OrdersAreTotal : Type 0 where
 
 -- ---- repositories
 
--- A tuple is there after writes where its last write is an insertion, or where it was there and none wrote it. Writes keep the list in order.
+-- After writes a tuple is there exactly if its last write is an insertion, or if it was there and none wrote it. Writes keep the
+-- list in order.
 pub record WritesApply : Type 0 where
   pub members : (D : List Fact) (ws : List Change) (t : Fact) → has (apply D ws) t ≡ inserted_after (has D t) ws t
   pub in_order : (D : List Fact) (ws : List Change) → IsRepository D → IsRepository (apply D ws)
@@ -52,24 +53,25 @@ stands_in v ps = list_any (λ p. list_any (stands_in_slot v) p.terms) ps
 abbrev pub ImageDetermines : Type 0
 ImageDetermines = (ps : List Pattern) (b c : Binding) → image_under b ps ≡ image_under c ps → (v : ℕ) → stands_in v ps ≡ true → b v ≡ c v
 
--- Of tuples of D, the test of a violation decides the relation.
+-- For lists of tuples of D, the test `violates` decides whether they are images of violations.
 abbrev pub ViolationDecides : Type 0
 ViolationDecides = (m : Rule) (own : List Change) (D : List Fact) (image : List Fact) → all_in D image ≡ true → Decides (violates Every own m D image) (IsViolation m D image)
 
--- The first violation is a violation, and none has a lesser image; where there is none the mapping holds.
+-- The first violation is a violation, and none has a lesser image; if none is found, the mapping holds.
 pub record FirstViolation : Type 0 where
   pub found : (m : Rule) (own : List Change) (D : List Fact) (image : List Fact) → IsRepository D → first_violation Every own m D ≡ Some image → IsFirstViolation m D image
   pub none : (m : Rule) (own : List Change) (D : List Fact) → first_violation Every own m D ≡ None → Holds m D
 
 -- ---- more specific, unifier
 
--- The test decides what is more specific, which is reflexive and transitive.
+-- The test decides whether a tuple is more specific; this relation is reflexive and transitive.
 pub record MoreSpecificLaws : Type 0 where
   pub decides : (s t : Fact) → Decides (more_specific s t) (IsMoreSpecific s t)
   pub reflexive : (t : Fact) → IsMoreSpecific t t
   pub transitive : (s t u : Fact) → IsMoreSpecific s t → IsMoreSpecific t u → IsMoreSpecific s u
 
--- The unifier of t and the more specific s makes both one tuple, leaves constants, and leaves every value that stands nowhere in t.
+-- The unifier of t and the more specific s makes the two equal, and leaves constants and every value that does not stand in t
+-- unchanged.
 pub record UnifierOf (s t : Fact) : Type 0 where
   pub unites : under (unifier t s) s ≡ under (unifier t s) t
   pub constants : (x : Datum) → is_constant x ≡ true → unifier t s x ≡ x
@@ -80,7 +82,8 @@ UnifierUnites = (s t : Fact) → more_specific s t ≡ true → UnifierOf s t
 
 -- ---- mentions
 
--- The coarse law: over two repositories that agree on every relation that a query mentions it has one value, whatever the own writes and the scope.
+-- The coarse law: if two repositories agree on every relation that a query mentions, it has the same value over both, whatever
+-- the own writes and the scope.
 abbrev pub CoarseLaw : Type 0
 CoarseLaw =
     (ms : List Rule) (q : Query) (D E : List Fact) (own : List Change) (scope : Scope) → IsRepository D → IsRepository E → filter (is_mentioned ms q) D ≡ filter (is_mentioned ms q) E
@@ -97,7 +100,7 @@ is_no_null (Const d) = is_constant d
 abbrev pub has_no_null : Pattern → Bool
 has_no_null a = list_all is_no_null a.terms
 
--- No constant of the mapping is a null. The grammar of sessions spells none.
+-- No constant of the mapping is a null. The grammar of sessions allows none.
 abbrev pub HasNoNull : Rule → Type 0
 HasNoNull m = (list_all has_no_null m.left && list_all has_no_null m.right) ≡ true
 
@@ -105,7 +108,7 @@ HasNoNull m = (list_all has_no_null m.left && list_all has_no_null m.right) ≡ 
 abbrev pub HaveNoNulls : List Rule → Type 0
 HaveNoNulls ms = AllByRecursion HasNoNull ms
 
--- A shift of attempt numbers commutes with every query, and outer forms do not show it.
+-- A shift of attempt numbers commutes with every query; outer forms do not show it.
 pub record ShiftsCommute : Type 0 where
   pub values : (n : ℕ → ℕ) (ms : List Rule) (q : Query) (D : List Fact) (own : List Change) (scope : Scope) → HaveNoNulls ms
       → value ms (shift_query n q) (map (shift_fact n) D) (map (shift_change n) own) scope ≡ shift_reply n (value ms q D own scope)
@@ -113,24 +116,26 @@ pub record ShiftsCommute : Type 0 where
 
 -- ---- outer forms
 
--- The attempt of a null is the one that is given for its update.
+-- If the value is a null, its attempt is the one that `attempts` gives for its update.
 abbrev pub is_by : (ℕ → ℕ) → Datum → Bool
 is_by attempts (Number i) = true
 is_by attempts (Text w) = true
 is_by attempts (Unknown m) = m.attempt == attempts m.update
 
--- All nulls of the tuple are of the attempts given.
+-- The attempt of each null of the tuple is the one that `attempts` gives for its update.
 abbrev pub are_by : (ℕ → ℕ) → Fact → Bool
 are_by attempts t = list_all (is_by attempts) t.values
 
--- Where each update has only one attempt among the nulls, outer forms keep the order of tuples, and tell them apart.
+-- If each update has only one attempt among the nulls, outer forms keep the order of tuples, and different tuples have different
+-- ones.
 pub record OuterForms : Type 0 where
   pub in_order : (attempts : ℕ → ℕ) (s t : Fact) → are_by attempts s ≡ true → are_by attempts t ≡ true → fact_cmp (outer s) (outer t) ≡ fact_cmp s t
   pub one : (attempts : ℕ → ℕ) (s t : Fact) → are_by attempts s ≡ true → are_by attempts t ≡ true → outer s ≡ outer t → s ≡ t
 
 -- ---- the end of a walk
 
--- y is the end of the walk from x along the images of t in s: the walk comes to it, comes round to it again (in one step where it stands still), and nothing that follows it is less.
+-- y is the end of the walk from x along the images of t in s: the walk reaches it, comes back to it (in one step if it stands
+-- still), and no value that follows it is less.
 pub record IsWalkEnd (t s : Fact) (x y : Datum) : Type 0 where
   pub from_start : ℕ
   pub reached : y ≡ after from_start (image_of t s) x
@@ -139,7 +144,7 @@ pub record IsWalkEnd (t s : Fact) (x y : Datum) : Type 0 where
   pub again : after round (image_of t s) y ≡ y
   pub least : (k : ℕ) → is_gt (datum_cmp y (after k (image_of t s) y)) ≡ false
 
--- The unifier gives each value the end of its walk, and each walk has one end.
+-- The unifier takes each value to the end of its walk, and each walk has only one end.
 pub record UnifierEnds : Type 0 where
   pub is_end : (t s : Fact) (x : Datum) → IsWalkEnd t s x (unifier t s x)
   pub one : (t s : Fact) (x y z : Datum) → IsWalkEnd t s x y → IsWalkEnd t s x z → y ≡ z

@@ -1,4 +1,4 @@
--- Mappings (tuple-generating dependencies) as pure data, bindings and images, what a violation is, and which mappings are in force.
+-- Mappings (tuple-generating dependencies) as pure data, bindings and images, violations, and the mappings in force.
 use Rattle.std.specs.Prelude.{◌≡◌, ℕ, suc, zero, ◌==◌, Bool, true, false, ◌||◌, List, [], ◌∷◌, map, pos}
 use Rattle.std.specs.List.{list_all, slice_index_or}
 use Rattle.def_chase.specs.Values.{Datum, Number, Fact}
@@ -14,7 +14,9 @@ pub record Pattern : Type 0 where
   pub relation : ℕ
   pub terms : List Slot
 
--- A mapping. Its variables are numbered by first occurrence, the left side first: `universal` of them stand on the left, `existential` on the right alone. It is in force from the start where `since` is 0, else once the update of that number has put it in force.
+-- A mapping. Its variables are numbered by first occurrence, the left side first: `universal` of them stand on the left,
+-- `existential` only on the right. If `since` is 0, the mapping is in force from the start, otherwise once the update of that
+-- number has put it in force.
 pub record Rule : Type 0 where
   pub since : ℕ
   pub universal : ℕ
@@ -31,7 +33,7 @@ abbrev pub value_under : Binding → Slot → Datum
 value_under b (Var v) = b v
 value_under b (Const d) = d
 
--- The tuple that an atom is under a binding.
+-- The tuple of an atom under a binding.
 abbrev pub fact_under : Binding → Pattern → Fact
 fact_under b p = record { relation = p.relation; values = map (value_under b) p.terms }
 
@@ -39,7 +41,7 @@ fact_under b p = record { relation = p.relation; values = map (value_under b) p.
 abbrev pub image_under : Binding → List Pattern → List Fact
 image_under b ps = map (fact_under b) ps
 
--- The binding that gives the first variable the first value, and so on. The number 0 stands where the list has no value.
+-- The binding that gives the first variable the first value, and so on. A variable without a value in the list gets the number 0.
 abbrev pub listed : List Datum → Binding
 listed ds v = slice_index_or ds v (Number (pos 0))
 
@@ -47,7 +49,8 @@ listed ds v = slice_index_or ds v (Number (pos 0))
 abbrev pub all_in : List Fact → List Fact → Bool
 all_in D ts = list_all (has D) ts
 
--- The image is that of a violation of the mapping in D: it is the left side under some binding, it lies in D, and no binding with that image puts every right atom in D.
+-- The tuples are the image of a violation of the mapping in D: they are the left side under some binding, they are in D, and no
+-- binding with this image puts every right atom in D.
 pub record IsViolation (m : Rule) (D : List Fact) (image : List Fact) : Type 0 where
   pub binding : Binding
   pub is_image : image_under binding m.left ≡ image

@@ -1,4 +1,4 @@
--- The relations that a query mentions: only their tuples decide its value.
+-- The relations that a query mentions: its value depends only on their tuples.
 use Rattle.std.specs.Prelude.{ℕ, ◌==◌, Bool, true, false, List, ◌++◌, Option, Some, None}
 use Rattle.std.specs.List.{list_any, slice_get}
 use Rattle.def_chase.specs.Values.{Fact}
@@ -10,7 +10,8 @@ abbrev pub rule_mentions : Option Rule → ℕ → Bool
 rule_mentions None r = false
 rule_mentions (Some m) r = list_any (λ a. a.relation == r) (m.left ++ m.right)
 
--- `Present` and `Specific` mention the relation of their tuple, `Violation` those of its mapping, and `Occurs` every relation.
+-- `Present` and `Specific` mention the relation of their tuple, `Violation` the relations of its mapping, and `Occurs` every
+-- relation.
 abbrev pub mentions : List Rule → Query → ℕ → Bool
 mentions ms (Present t) r = t.relation == r
 mentions ms (Violation n) r = rule_mentions (slice_get ms n) r

@@ -8,14 +8,15 @@ use Rattle.def_chase.specs.Mappings.{Rule, force}
 use Rattle.def_chase.specs.Specific.{more_specific}
 use Rattle.def_chase.specs.Violations.{Forward, Backward, Scope, Every, Caused, first_violation}
 
--- Is the tuple there; which is the first violation of mapping m; which tuples are more specific than the tuple; which tuples hold a null with the outer name `?u.k`.
+-- A query: is the tuple there; what is the first violation of the mapping of this number; which tuples are more specific than the
+-- tuple; which tuples hold a null with the outer name `?u.k`.
 pub data Query : Type 0 where
   Present : Fact → Query
   Violation : ℕ → Query
   Specific : Fact → Query
   Occurs : ℕ → ℕ → Query
 
--- What a query is answered: yes or no; the image of the first violation, or that there is none; the tuples asked for, in order.
+-- The reply to a query: yes or no; the image of the first violation, or that there is none; the tuples of the query, in order.
 pub data Reply : Type 0 where
   Yes : Reply
   No : Reply
@@ -42,23 +43,24 @@ is_named u k (Unknown n) = (n.update == u) && (n.place == k)
 abbrev pub holds_null : ℕ → ℕ → Fact → Bool
 holds_null u k t = list_any (is_named u k) t.values
 
--- The answer that tells a first violation, or that there is none.
+-- The reply for a first violation, or that there is none.
 abbrev pub image_reply : Option (List Fact) → Reply
 image_reply None = Nothing
 image_reply (Some image) = Image image
 
--- The answer to `Violation` of a mapping, if there is one of that number.
+-- The reply to `Violation` of a mapping; without a mapping there is no violation.
 abbrev pub violation_reply : Option Rule → Scope → List Change → List Fact → Reply
 violation_reply None scope own E = Nothing
 violation_reply (Some m) scope own E = image_reply (first_violation scope own m E)
 
--- A mapping that the own writes put in force is looked at whole: each of its violations is caused by them.
+-- The scope for mapping n. Forward, if the own writes put the mapping in force, they caused each of its violations, so every
+-- violation counts.
 abbrev pub scope_at : Scope → List Change → ℕ → Scope
 scope_at Every own n = Every
 scope_at (Caused Forward) own n = if list_any (inserts (force n)) own then Every else Caused Forward
 scope_at (Caused Backward) own n = Caused Backward
 
--- The value of a query over D with the own writes applied, counting the violations within the scope.
+-- The value of a query over D with the own writes applied. Only the violations within the scope count.
 abbrev pub value : List Rule → Query → List Fact → List Change → Scope → Reply
 value ms (Present t) D own scope = if has (apply D own) t then Yes else No
 value ms (Violation n) D own scope = violation_reply (slice_get ms n) (scope_at scope own n) own (apply D own)

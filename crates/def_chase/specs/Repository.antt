@@ -18,7 +18,7 @@ IsRepository = IsStrictlySortedBy fact_cmp
 abbrev pub has : List Fact → Fact → Bool
 has D t = list_any (same_fact t) D
 
--- The repository after one write. An insertion of what is there and a deletion of what is not leave it as it is.
+-- The repository after one write. An insertion of a tuple that is there, and a deletion of one that is not, change nothing.
 abbrev pub change : List Fact → Change → List Fact
 change D (Insert t) = insert_key fact_cmp D t
 change D (Delete t) = filter (λ s. not (same_fact t s)) D
@@ -28,7 +28,7 @@ abbrev pub apply : List Fact → List Change → List Fact
 apply D [] = D
 apply D (w ∷ ws) = apply (change D w) ws
 
--- Whether the last write of the tuple is an insertion; where there is no write of it, what was said before.
+-- Whether the last write of the tuple is an insertion; `before` if there is no write of it.
 abbrev pub inserted_after : Bool → List Change → Fact → Bool
 inserted_after before [] t = before
 inserted_after before (Insert s ∷ ws) t = inserted_after (same_fact t s || before) ws t

@@ -1,4 +1,4 @@
--- Other attempt numbers: a shift takes attempt a of update u to a + n u. It keeps the order of all nulls.
+-- Other attempt numbers: a shift takes attempt a of update u to attempt a + n u. It keeps the order of nulls.
 use Rattle.std.specs.Prelude.{ℕ, ◌+◌, map}
 use Rattle.def_chase.specs.Values.{Datum, Number, Text, Unknown, Fact, under}
 use Rattle.def_chase.specs.Repository.{Change, Insert, Delete}
@@ -26,7 +26,7 @@ shift_query n (Violation m) = Violation m
 shift_query n (Specific t) = Specific (shift_fact n t)
 shift_query n (Occurs u k) = Occurs u k
 
--- The answer with all its tuples shifted.
+-- The reply with all its tuples shifted.
 abbrev pub shift_reply : (ℕ → ℕ) → Reply → Reply
 shift_reply n Yes = Yes
 shift_reply n No = No

@@ -18,6 +18,7 @@ abbrev pub least_after : ℕ → (Datum → Datum) → Datum → Datum
 least_after zero g x = x
 least_after (suc n) g x = lesser x (least_after n g (g x))
 
--- The end of the walk from x along the images of t in s. After as many steps as t has values the walk stands still or goes round a cycle; its end is where it stands, or the least value of the cycle.
+-- The end of the walk from x along the images of t in s. After as many steps as t has values, the walk stands still or goes round
+-- a cycle. Its end is the value where it stands, or the least value of the cycle.
 abbrev pub unifier : Fact → Fact → Datum → Datum
 unifier t s x = let n = length t.values in let g = image_of t s in least_after n g (after n g x)

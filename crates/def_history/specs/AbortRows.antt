@@ -1,4 +1,5 @@
--- Histories with a conflict, entry by entry: an update that is restarted or held, a null that goes with its attempt, and a mapping that is added late.
+-- Histories with a conflict, entry by entry: an update that is restarted or held, a null that is gone with its attempt, and a
+-- mapping that is added late.
 use Rattle.std.specs.Prelude.{◌≡◌, true, false, List, [], ◌∷◌, ◌++◌, Some, None}
 use Rattle.def_machine.specs.Machine.{Done}
 use Rattle.def_machine.specs.Updates.{Precise, Coarse}
@@ -17,7 +18,7 @@ use Rattle.def_history.specs.HistoryWords.{null_by, a_step, left_by}
 
 -- ---- a conflict: A(x) -> B(x); update 1 inserts A(1), update 2 deletes it
 
--- Update 2 goes to its end before update 1 makes a step: it finds no A(1), and has nothing to delete.
+-- Update 2 runs to its end before update 1 makes a step: it finds no A(1), and has nothing to delete.
 abbrev pub conflict_events : List (Event (caused_chase copying 100))
 conflict_events = Admits ∷ Admits ∷ Steps 2 ∷ Steps 2 ∷ Steps 1 ∷ []
 
@@ -31,7 +32,7 @@ conflict_entries =
     ∷ a_step copying 1 0 Ready (Insert (one_in 0) ∷ []) (Conflict 2 1 1 No Yes ∷ []) 0
     ∷ []
 
--- Update 1 goes to its end, then update 2.
+-- Update 1 runs to its end, then update 2.
 abbrev pub conflict_rest : List (Event (caused_chase copying 100))
 conflict_rest = Steps 1 ∷ Steps 1 ∷ Steps 1 ∷ Steps 2 ∷ Steps 2 ∷ []
 
@@ -45,7 +46,7 @@ conflict_ends =
     ∷ a_step copying 2 1 (Ended Done) [] [] 2
     ∷ []
 
--- What these histories leave, with precise and with coarse dependences.
+-- The results of these histories, with precise and with coarse dependences.
 pub record Conflicts : Type 0 where
   pub conflict : left_by copying 3 Precise [] insert_delete conflict_events ≡ Some record { entries = conflict_entries; standings = Ready ∷ Ready ∷ []; repository = []; quiet = false }
   pub drained :
@@ -69,9 +70,10 @@ pub record Conflicts : Type 0 where
       left_by copying 0 Precise [] insert_delete (conflict_events ++ conflict_rest)
       ≡ Some record { entries = conflict_entries ++ conflict_ends; standings = Ended Done ∷ Ended Done ∷ []; repository = one_in 1 ∷ []; quiet = true }
 
--- ---- a null that a later update has taken: A(x) -> B(x, z); A(x), D(x) -> E(x); update 1 inserts D(1), update 2 A(1), update 3 C(?2.1)
+-- ---- a null that a later update has taken: A(x) -> B(x, z); A(x), D(x) -> E(x); update 1 inserts D(1), update 2 A(1), update 3
+-- C(?2.1)
 
--- Updates 2 and 3 go to their ends before update 1 makes a step.
+-- Updates 2 and 3 run to their ends before update 1 makes a step.
 abbrev pub taken_events : List (Event (caused_chase taking 100))
 taken_events = Admits ∷ Admits ∷ Admits ∷ Steps 2 ∷ Steps 2 ∷ Steps 2 ∷ Steps 2 ∷ Steps 3 ∷ Steps 3 ∷ Steps 1 ∷ []
 
@@ -90,11 +92,11 @@ taken_entries =
     ∷ a_step taking 1 0 Ready (Insert (one_in 3) ∷ []) (Conflict 2 6 1 Nothing (Image (one_in 0 ∷ one_in 3 ∷ [])) ∷ Depends 3 1 2 ∷ []) 0
     ∷ []
 
--- They go to their ends again, in number order.
+-- All three run to their ends, in number order.
 abbrev pub taken_rest : List (Event (caused_chase taking 100))
 taken_rest = Steps 1 ∷ Steps 2 ∷ Steps 2 ∷ Steps 2 ∷ Steps 2 ∷ Steps 2 ∷ Steps 2 ∷ Steps 3 ∷ Steps 3 ∷ []
 
--- At the second attempts the null is that of attempt 1.
+-- At the second attempts the null is drawn by attempt 1.
 abbrev pub taken_ends : List (Entry (caused_chase taking 100))
 taken_ends =
     a_step taking 1 0 (Ended Done) [] [] 1
@@ -112,7 +114,7 @@ taken_ends =
 abbrev pub taken_repository : List Fact
 taken_repository = one_in 0 ∷ fact 1 (num 1 ∷ null_by 2 1 1 ∷ []) ∷ fact 2 (null_by 2 1 1 ∷ []) ∷ one_in 3 ∷ one_in 4 ∷ []
 
--- What these histories leave.
+-- The results of these histories.
 pub record TakenNulls : Type 0 where
   pub taken : left_by taking 3 Precise [] taken_null taken_events ≡ Some record { entries = taken_entries; standings = Ready ∷ Ready ∷ Ready ∷ []; repository = []; quiet = false }
   pub drained :
@@ -121,7 +123,7 @@ pub record TakenNulls : Type 0 where
 
 -- ---- a mapping added late: update 1 adds A(x) -> B(x) over the base A(1), update 2 inserts A(2)
 
--- Update 2 goes to its end before update 1 makes a step.
+-- Update 2 runs to its end before update 1 makes a step.
 abbrev pub added_events : List (Event (caused_chase added_copying 100))
 added_events = Admits ∷ Admits ∷ Steps 2 ∷ Steps 2 ∷ Steps 1 ∷ []
 
@@ -135,11 +137,11 @@ added_entries =
     ∷ a_step added_copying 1 0 Ready (Insert (force 0) ∷ []) (Conflict 2 2 1 No Yes ∷ []) 0
     ∷ []
 
--- Both go to their ends, in number order.
+-- Both run to their ends, in number order.
 abbrev pub added_rest : List (Event (caused_chase added_copying 100))
 added_rest = Steps 1 ∷ Steps 1 ∷ Steps 1 ∷ Steps 2 ∷ Steps 2 ∷ Steps 2 ∷ Steps 2 ∷ []
 
--- The mapping repairs the base, and then what update 2 inserts.
+-- The mapping is repaired in the base, and then for the tuple that update 2 inserts.
 abbrev pub added_ends : List (Entry (caused_chase added_copying 100))
 added_ends =
     a_step added_copying 1 0 Ready [] [] 0
@@ -151,7 +153,7 @@ added_ends =
     ∷ a_step added_copying 2 1 (Ended Done) [] [] 2
     ∷ []
 
--- What these histories leave.
+-- The results of these histories.
 pub record AddedMappings : Type 0 where
   pub added : left_by added_copying 3 Precise (one_in 0 ∷ []) added_mapping added_events ≡ Some record { entries = added_entries; standings = Ready ∷ Ready ∷ []; repository = one_in 0 ∷ []; quiet = false }
   pub drained :

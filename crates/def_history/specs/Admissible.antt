@@ -1,4 +1,4 @@
--- What a session of the chase has to meet, with the updates handed in later among its submissions.
+-- The sessions of the chase that the laws are about. Their submissions include the updates handed in later.
 use Rattle.std.specs.Prelude.{◌≡◌, ℕ, suc, ◌≤◌, ◌==◌, Bool, true, not, List, map, Some, slice_get}
 use Rattle.std.specs.List.{list_all}
 use Rattle.def_machine.specs.Machine.{Machine}
@@ -21,11 +21,11 @@ module _ (ms : List Rule) (B : ℕ) where
   abbrev M : Machine
   M = caused_chase ms B
 
-  -- The session's mappings, budget of steps, base and updates are ones that a session can spell.
+  -- The session's mappings, budget of steps, base and updates are such as a session can spell.
   pub record IsAdmissible (S : Session M) : Type 0 where
     -- an attempt may make a step
     pub some_step : 1 ≤ B
-    -- the base is a repository where the mappings in force hold, and it puts none in force
+    -- the base is a repository in which the mappings in force hold, and it puts none in force
     pub in_order : IsRepository S.base
     pub hold : AllHold ms S.base
     pub plain : list_all is_plain S.base ≡ true
@@ -35,7 +35,7 @@ module _ (ms : List Rule) (B : ℕ) where
     -- no mapping has a null among its constants, and none repairs by putting a mapping in force
     pub constants : HaveNoNulls ms
     pub repairs : repairs_plainly ms ≡ true
-    -- no update inserts what puts a mapping in force, or adds one whose `since` is above its own number
+    -- no update inserts a tuple that puts a mapping in force, or adds a mapping whose `since` is above its own number
     pub timely : (k : ℕ) (x : Submission M) → slice_get S.submissions k ≡ Some x → acts_in_time ms (suc k) x.operation ≡ true
 
   -- The updates of the session as the serial machine has them.

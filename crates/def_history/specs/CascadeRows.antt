@@ -25,7 +25,7 @@ joining = rule 1 0 (atom 0 (Var 0 ∷ []) ∷ atom 2 (Var 0 ∷ []) ∷ []) (ato
 abbrev pub four_updates : List Request
 four_updates = request (Adds (one_in 0)) [] ∷ request (Adds (one_in 2)) [] ∷ request (Removes (one_in 2)) [] ∷ request (Removes (fact 2 (num 5 ∷ []))) [] ∷ []
 
--- Updates 2 to 4 go to their ends before update 1 makes a step.
+-- Updates 2 to 4 run to their ends before update 1 makes a step.
 abbrev pub before_conflict : List (Event (caused_chase joining 100))
 before_conflict = Admits ∷ Admits ∷ Admits ∷ Admits ∷ Steps 2 ∷ Steps 2 ∷ Steps 3 ∷ Steps 3 ∷ Steps 4 ∷ Steps 4 ∷ []
 
@@ -44,15 +44,15 @@ entries_before =
     ∷ a_step joining 4 0 (Ended Done) [] [] 0
     ∷ []
 
--- The insertion of A(1) makes a violation at update 2; update 3 has read the C(1) that update 2 wrote.
+-- The insertion of A(1) causes a violation at update 2; update 3 has read the C(1) that update 2 wrote.
 abbrev pub causes_of_one : List (Cause (caused_chase joining 100))
 causes_of_one = Conflict 2 2 1 Nothing (Image (one_in 0 ∷ one_in 2 ∷ [])) ∷ Depends 3 1 2 ∷ []
 
--- Update 4 has read a tuple of C, which it didn't find with or without update 2: it depends by the relation alone.
+-- Update 4 has looked for a tuple of C, which is not there with or without update 2: it depends only by the relation.
 abbrev pub coarse_cause : List (Cause (caused_chase joining 100))
 coarse_cause = Depends 4 1 2 ∷ []
 
--- Updates 1 to 3 go to their ends.
+-- Updates 1 to 3 run to their ends.
 abbrev pub rest_of_three : List (Event (caused_chase joining 100))
 rest_of_three = Steps 1 ∷ Steps 2 ∷ Steps 2 ∷ Steps 2 ∷ Steps 2 ∷ Steps 3 ∷ Steps 3 ∷ []
 
@@ -67,7 +67,7 @@ first_ends =
     ∷ a_step joining 3 1 Ready (Delete (one_in 2) ∷ []) [] 2
     ∷ []
 
--- What these histories leave; with coarse dependences update 4 goes once more.
+-- The results of these histories; with coarse dependences update 4 runs once more.
 pub record Cascades : Type 0 where
   pub precise :
       left_by joining 3 Precise [] four_updates (before_conflict ++ Steps 1 ∷ [])
@@ -112,12 +112,13 @@ joining_twice =
 abbrev pub four_insertions : List Request
 four_insertions = request (Adds (one_in 0)) [] ∷ request (Adds (one_in 2)) [] ∷ request (Adds (one_in 4)) [] ∷ request (Adds (one_in 3)) [] ∷ []
 
--- Updates 2 to 4 go to their ends before update 1 makes a step.
+-- Updates 2 to 4 run to their ends before update 1 makes a step.
 abbrev pub two_level_events : List (Event (caused_chase joining_twice 100))
 two_level_events =
     Admits ∷ Admits ∷ Admits ∷ Admits ∷ Steps 2 ∷ Steps 2 ∷ Steps 3 ∷ Steps 3 ∷ Steps 3 ∷ Steps 3 ∷ Steps 4 ∷ Steps 4 ∷ Steps 1 ∷ []
 
--- Update 3 repairs the violation that C(1) of update 2 makes with its G(1), and update 4 finds the E(1) that this repair wrote.
+-- Update 3 repairs the violation that the C(1) of update 2 causes with its G(1), and update 4 finds the E(1) that this repair
+-- wrote.
 abbrev pub two_level_entries : List (Entry (caused_chase joining_twice 100))
 two_level_entries =
     Admitted 1
@@ -134,16 +135,17 @@ two_level_entries =
     ∷ a_step joining_twice 4 0 (Ended Done) [] [] 0
     ∷ []
 
--- So update 4 goes with update 3, which goes with update 2. The read of update 3 that depends is the given one.
+-- So update 4 restarts with update 3, which restarts with update 2. `read` is the read of update 3 that depends.
 abbrev pub two_level_causes : ℕ → List (Cause (caused_chase joining_twice 100))
 two_level_causes read = Conflict 2 2 1 Nothing (Image (one_in 0 ∷ one_in 2 ∷ [])) ∷ Depends 3 read 2 ∷ Depends 4 1 3 ∷ []
 
--- What these histories leave.
+-- The results of these histories.
 pub record TwoLevels : Type 0 where
   pub precise :
       left_by joining_twice 3 Precise [] four_insertions two_level_events
       ≡ Some record { entries = two_level_entries ++ a_step joining_twice 1 0 Ready (Insert (one_in 0) ∷ []) (two_level_causes 3) 0 ∷ []; standings = Ready ∷ Ready ∷ Ready ∷ Ready ∷ []; repository = []; quiet = false }
-  -- The second read of update 3 is of a mapping that mentions the relation of C(1), though its value is the same without it.
+  -- The second read of update 3 is about a mapping that mentions the relation of C(1), although its value is the same without
+  -- C(1).
   pub coarse :
       left_by joining_twice 3 Coarse [] four_insertions two_level_events
       ≡ Some record { entries = two_level_entries ++ a_step joining_twice 1 0 Ready (Insert (one_in 0) ∷ []) (two_level_causes 2) 0 ∷ []; standings = Ready ∷ Ready ∷ Ready ∷ Ready ∷ []; repository = []; quiet = false }

@@ -1,4 +1,4 @@
--- What a history is over, the updates that its entries leave, and what each event does there.
+-- The ground of a history, the updates that its entries leave, and the effects of events after them.
 use Rattle.std.specs.Prelude.{◌≡◌, ℕ, suc, List, [], ◌∷◌, ◌++◌, map, Option, Some, None, unwrap_or, option_map, slice_get, length}
 use Rattle.def_machine.specs.Machine.{Machine}
 use Rattle.def_machine.specs.Updates.{Update, Session, Settings, committed}
@@ -14,7 +14,8 @@ use Rattle.def_steps.specs.Serial.{Request}
 use Rattle.def_history.specs.Histories.{session_of, IsLegalHistory}
 use Rattle.def_history.specs.PlainEntries.{PlainEntry, plain_entry, entry_kept}
 
--- What a history is over: the mappings, the budget of steps, the settings, the base, the updates of the session, and the updates handed in later, which have no recorded answers.
+-- The ground of a history: the mappings, the budget of steps, the settings, the base, the updates of the session, and the updates
+-- handed in later, which have no recorded answers.
 pub record Ground : Type 0 where
   pub rules : List Rule
   pub budget : ℕ
@@ -23,18 +24,18 @@ pub record Ground : Type 0 where
   pub requests : List Request
   pub later : List Operation
 
--- The machine and the session over which the history is.
+-- The machine and the session of the history.
 abbrev pub machine : Ground → Machine
 machine g = caused_chase g.rules g.budget
 
 abbrev pub session_over : (g : Ground) → Session (machine g)
 session_over g = session_of g.rules g.budget g.base g.requests g.later
 
--- The entries as those of the machine.
+-- The entries as entries of the machine.
 abbrev pub entries_over : (g : Ground) → List PlainEntry → List (Rattle.def_machine.specs.Effects.Entry (machine g))
 entries_over g H = map (entry_kept g.rules g.budget) H
 
--- The updates of a log, and none where there is no log.
+-- The updates of a log; none if there is no log.
 abbrev pub updates_in : (M : Machine) → Option (Log M) → List (Update M)
 updates_in M None = []
 updates_in M (Some l) = l.updates
@@ -47,10 +48,10 @@ updates_after g H = updates_in (machine g) (after (machine g) g.settings (sessio
 abbrev pub IsLegalOver : Ground → List PlainEntry → Type 0
 IsLegalOver g H = IsLegalHistory g.rules g.budget g.settings (session_over g) (entries_over g H) (updates_after g H)
 
--- The effect of an event after these entries, where it is allowed.
+-- The effect of an event after these entries, if it is allowed.
 abbrev pub effect_after : (g : Ground) → List PlainEntry → Event (machine g) → Option (Effect (machine g))
 effect_after g H e = effect (machine g) g.settings (session_over g) (updates_after g H) e
 
--- The entries with that of the event, where it is allowed.
+-- The entries with the entry of the event, if it is allowed.
 abbrev pub grown : (g : Ground) → List PlainEntry → Event (machine g) → Option (List PlainEntry)
 grown g H e = option_map (λ x. H ++ plain_entry g.rules g.budget x.entry ∷ []) (effect_after g H e)

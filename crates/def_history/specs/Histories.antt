@@ -1,4 +1,5 @@
--- Histories of the chase: attempts that look at the violations which they caused, in any order, and what is answered of them.
+-- Histories of the chase: attempts, in any order, that look at the violations which they caused; and the repository that they
+-- leave.
 use Rattle.std.specs.Prelude.{ℕ, List, [], ◌++◌, map}
 use Rattle.def_machine.specs.Machine.{Machine}
 use Rattle.def_machine.specs.Updates.{Update, Submission, Session, Settings, below, committed}
@@ -23,7 +24,8 @@ module _ (ms : List Rule) (B : ℕ) where
   abbrev pub session_of : List Fact → List Request → List Operation → Session M
   session_of D rs ops = record { base = D; submissions = submissions (rs ++ map (λ op. record { operation = op; answers = [] }) ops) }
 
-  -- The entries are a legal history over the session with the settings, and leave these updates. Each entry is that of an event allowed at what the entries before it leave, with its causes.
+  -- The entries are a legal history over the session with the settings, and leave these updates. Each entry is the entry, with
+  -- its causes, of an event that is allowed after the entries before it.
   abbrev pub IsLegalHistory : Settings → Session M → List (Entry M) → List (Update M) → Type 0
   IsLegalHistory s S H us = IsLegal M s S H us
 

@@ -1,4 +1,4 @@
--- Whose nulls stand in what a history leaves: those of the base, and those that the present attempts of lower updates drew.
+-- The nulls in the repositories of a history: those of the base, and those that the present attempts of lower updates drew.
 use Rattle.std.specs.Prelude.{◌≡◌, ℕ, zero, suc, ◌≤◌, ◌==◌, nat_lt, Bool, true, false, not, ◌&&◌, ◌||◌, List, length, Option, Some, None, slice_get}
 use Rattle.std.specs.List.{list_all}
 use Rattle.def_machine.specs.Machine.{Machine}
@@ -12,7 +12,7 @@ use Rattle.def_steps.specs.Origins.{written}
 use Rattle.def_history.specs.Histories.{IsLegalHistory}
 use Rattle.def_history.specs.Admissible.{IsAdmissible}
 
--- The update of that number, if there is one.
+-- The update with this number, if there is one.
 abbrev pub numbered : {A : Type 0} → List A → ℕ → Option A
 numbered us zero = None
 numbered us (suc k) = slice_get us k
@@ -22,35 +22,36 @@ module _ (ms : List Rule) (B : ℕ) where
   abbrev M : Machine
   M = caused_chase ms B
 
-  -- The update shows what it writes, being neither withdrawn nor spent nor refused, and the null is one that its present attempt drew.
+  -- The update is neither withdrawn nor spent nor refused, and its present attempt drew the null.
   abbrev pub drew : Option (Update M) → NullName → Bool
   drew None m = false
   drew (Some u) m =
       not u.withdrawn && (not (hides (M.outcome u.state)) && ((m.attempt == u.attempt) && (nat_lt 0 m.place && not (nat_lt u.state.nulls m.place))))
 
-  -- The value is no null, or one of update 0 and attempt 0 as the base has them, or one that an update with a number of at most n drew so.
+  -- The value is no null, or a null of update 0 and attempt 0, as in the base, or one that `drew` holds of for an update with a
+  -- number of at most n.
   abbrev pub is_present : List (Update M) → ℕ → Datum → Bool
   is_present us n (Number i) = true
   is_present us n (Text w) = true
   is_present us n (Unknown m) = ((m.update == 0) && (m.attempt == 0)) || (not (nat_lt n m.update) && drew (numbered us m.update) m)
 
-  -- All nulls of the tuple are so.
+  -- All values of the tuple are present in this sense.
   abbrev pub are_present : List (Update M) → ℕ → Fact → Bool
   are_present us n t = list_all (is_present us n) t.values
 
-  -- Whose nulls stand in the trails, and in what lies below each update and after the last.
+  -- The nulls in the trails, and in the repositories below each update and after the last one, are present.
   pub record ArePresent (S : Session M) (us : List (Update M)) : Type 0 where
     pub trails : (k : ℕ) (u : Update M) → slice_get us k ≡ Some u → list_all (λ w. are_present us (suc k) (written w)) (trail M u) ≡ true
     pub views : (k : ℕ) → k ≤ length us → list_all (are_present us k) (below M S.base us k) ≡ true
-    -- so each update has only one attempt among the nulls, and outer forms tell the tuples apart
+    -- so each update has only one attempt among the nulls, and different tuples have different outer forms
     pub apart : (k : ℕ) (s t : Fact) → k ≤ length us → has (below M S.base us k) s ≡ true → has (below M S.base us k) t ≡ true → outer s ≡ outer t → s ≡ t
 
-  -- After every legal history.
+  -- This holds after every legal history.
   abbrev pub HaveNullsPresent : Type 0
   HaveNullsPresent =
       (s : Settings) (S : Session M) (H : List (Entry M)) (us : List (Update M)) → IsAdmissible ms B S → IsLegalHistory ms B s S H us
       → ArePresent S us
 
--- With any mappings and any budget.
+-- This holds for any mappings and any budget.
 abbrev pub NullsArePresent : Type 0
 NullsArePresent = (ms : List Rule) (B : ℕ) → HaveNullsPresent ms B

@@ -1,4 +1,5 @@
--- The entries of a history as plain data. Of the machine they have writes, replies and choices alone, so that entries of any mappings and budget are of one type.
+-- The entries of a history as plain data. Of the machine they have only writes, replies and choices, so entries for any mappings
+-- and budget are of the same type.
 use Rattle.std.specs.Prelude.{◌≡◌, ℕ, List, map}
 use Rattle.def_machine.specs.Standings.{Standing}
 use Rattle.def_machine.specs.Cascade.{Cause, Conflict, Depends}
@@ -9,7 +10,7 @@ use Rattle.def_chase.specs.Queries.{Reply}
 use Rattle.def_chase.specs.Updates.{Choice}
 use Rattle.def_steps.specs.Chase.{caused_chase}
 
--- The reader's read, by its number in the reader's log, had the old answer, and has the new one with the writer's new writes.
+-- The reader's read, by its number in the reader's log, had the old answer, and with the writer's new writes it has the new one.
 pub record ConflictCause : Type 0 where
   pub reader : ℕ
   pub read : ℕ
@@ -17,7 +18,7 @@ pub record ConflictCause : Type 0 where
   pub old : Reply
   pub new : Reply
 
--- The reader's read depends on what the aborted update `on` wrote.
+-- The reader's read depends on the writes of update `on`, which lost them.
 pub record DependenceCause : Type 0 where
   pub reader : ℕ
   pub read : ℕ
@@ -28,7 +29,8 @@ pub data PlainCause : Type 0 where
   InConflict : ConflictCause → PlainCause
   Dependent : DependenceCause → PlainCause
 
--- A step: the attempt that made it, the standing after it, the writes that it shows, why others were restarted, and how many updates are committed after it.
+-- A step: the update and the attempt that made it, the standing after it, the writes that it shows, the causes of restarts, and
+-- the number of updates committed after it.
 pub record StepMade : Type 0 where
   pub update : ℕ
   pub attempt : ℕ
@@ -48,7 +50,7 @@ pub record AnswerMade : Type 0 where
   pub choice : Choice
   pub standing : Standing
 
--- A withdrawal: why others were restarted, and how many updates are committed after it.
+-- A withdrawal: the causes of restarts, and the number of updates committed after it.
 pub record WithdrawalMade : Type 0 where
   pub update : ℕ
   pub causes : List PlainCause
@@ -79,12 +81,12 @@ plain_entry ms B (Withdrew i cs n) = WasWithdrawn (record { update = i; causes =
 
 -- ---- and back to those of the machine with these mappings and this budget
 
--- The cause that is kept so.
+-- The cause of the machine for this plain one.
 abbrev pub cause_kept : (ms : List Rule) (B : ℕ) → PlainCause → Cause (caused_chase ms B)
 cause_kept ms B (InConflict x) = Conflict x.reader x.read x.writer x.old x.new
 cause_kept ms B (Dependent x) = Depends x.reader x.read x.on
 
--- The entry that is kept so.
+-- The entry of the machine for this plain one.
 abbrev pub entry_kept : (ms : List Rule) (B : ℕ) → PlainEntry → Entry (caused_chase ms B)
 entry_kept ms B (WasAdmitted i) = Admitted i
 entry_kept ms B (WasStepped e) = Stepped (record { update = e.update; attempt = e.attempt; standing = e.standing; writes = e.writes; causes = map (cause_kept ms B) e.causes; committed = e.committed })
@@ -92,7 +94,7 @@ entry_kept ms B (WasDelivered e) = Delivered e.update e.standing
 entry_kept ms B (WasAnswered e) = Answered e.update e.choice e.standing
 entry_kept ms B (WasWithdrawn e) = Withdrew e.update (map (cause_kept ms B) e.causes) e.committed
 
--- Nothing is lost either way.
+-- Nothing is lost in either direction.
 pub record EntriesArePlain : Type 0 where
   pub kept : (ms : List Rule) (B : ℕ) (e : Entry (caused_chase ms B)) → entry_kept ms B (plain_entry ms B e) ≡ e
   pub plain : (ms : List Rule) (B : ℕ) (e : PlainEntry) → plain_entry ms B (entry_kept ms B e) ≡ e

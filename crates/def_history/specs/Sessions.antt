@@ -1,4 +1,4 @@
--- Which sessions are admissible: timely ones, and those that take one more timely update; the sessions of the worked histories are.
+-- Admissible sessions: timely ones, those with one more timely update, and the sessions of the worked histories.
 use Rattle.std.specs.Prelude.{◌≡◌, ℕ, suc, ◌≤◌, true, List, [], ◌∷◌, length}
 use Rattle.std.specs.List.{list_all}
 use Rattle.def_machine.specs.Updates.{Submission, Session}
@@ -17,17 +17,17 @@ use Rattle.def_history.specs.Histories.{session_of}
 use Rattle.def_history.specs.Admissible.{is_plain, IsAdmissible, requests}
 use Rattle.def_history.specs.CascadeRows.{joining, four_updates, joining_twice, four_insertions}
 
--- What makes a session admissible, and what it was made of.
+-- Conditions under which a session is admissible, and the requests of a session.
 pub record SessionsAreAdmissible : Type 0 where
   -- the updates of the session act in time
   pub timely : (ms : List Rule) (B : ℕ) (D : List Fact) (rs : List Request) → 1 ≤ B → IsRepository D → AllHold ms D → list_all is_plain D ≡ true → IsBase D → list_all (are_by (λ u. 0)) D ≡ true → HaveNoNulls ms
       → repairs_plainly ms ≡ true → ActInTime ms 1 rs → IsAdmissible ms B (session_of ms B D rs [])
-  -- one more update that acts in time is handed in
+  -- an admissible session stays so if one more update that acts in time is handed in
   pub grows : (ms : List Rule) (B : ℕ) (S : Session (caused_chase ms B)) (x : Submission (caused_chase ms B)) → IsAdmissible ms B S → acts_in_time ms (suc (length S.submissions)) x.operation ≡ true
       → IsAdmissible ms B (with_more S (x ∷ []))
-  -- the session has the requests that it was made of
+  -- the session has the requests that it was made from
   pub same : (ms : List Rule) (B : ℕ) (D : List Fact) (rs : List Request) → requests ms B (session_of ms B D rs []) ≡ rs
-  -- the sessions of the worked histories
+  -- the sessions of the worked histories are admissible
   pub conflict : IsAdmissible copying 100 (session_of copying 100 [] insert_delete [])
   pub taken : IsAdmissible taking 100 (session_of taking 100 [] taken_null [])
   pub added : IsAdmissible added_copying 100 (session_of added_copying 100 (one_in 0 ∷ []) added_mapping [])

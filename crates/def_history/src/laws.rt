@@ -1,4 +1,4 @@
-//! What holds of every history of the chase, step by step: the laws of machines, at the chase.
+//! The properties of every history of the chase, step by step: the laws of machines for the chase.
 ghost use Rattle.std.specs.Prelude.{ℕ, List, ◌≤◌};
 ghost use Rattle.def_machine.specs.Allowed.{AllowedLaw};
 ghost use Rattle.def_machine.specs.CallLaw.{CallLaw};
@@ -17,89 +17,92 @@ ghost use Rattle.def_machine.specs.Work.{WorkLaw};
 ghost use Rattle.def_chase.specs.Mappings.{Rule};
 ghost use Rattle.def_steps.specs.Chase.{caused_chase};
 
-/// After every event each update that is not withdrawn is its present attempt's run over what lies below it now, so every
-/// logged read is valid; the history is legal; an update has at most K + 2 attempts, and n updates at most
-/// n × (K + 2) × B steps.
+/// After every event each update that is not withdrawn is its present attempt's run over the repository that is below it now, so
+/// every logged read is valid. The history is legal. An update has at most K + 2 attempts, and n updates have at most n × (K + 2)
+/// × B steps.
 pub fn attempts_are_runs()
     ensures { (ms : List Rule) (budget : ℕ) → 1 ≤ budget → HistoryLaw (caused_chase ms budget) }
 {}
 
-/// An event at an update changes neither the updates below it nor what lies below any of them or below it; it is at no
-/// committed update, and what was committed stays so.
+/// An event at an update changes neither the updates below it nor the repository below any of them or below it. The update is not
+/// committed, and committed updates stay so.
 pub fn events_leave_what_is_below()
     ensures { (ms : List Rule) (budget : ℕ) → 1 ≤ budget → LocalLaw (caused_chase ms budget) }
 {}
 
-/// An attempt whose logged reads are all valid over a repository is its run there, wherever its reads were answered; and
-/// the reads of a run are valid.
+/// If all logged reads of an attempt are valid over a repository, the attempt is its run over it, wherever its reads were
+/// answered. Conversely, the reads of a run are valid.
 pub fn valid_reads_make_a_run()
     ensures { (ms : List Rule) (budget : ℕ) → 1 ≤ budget → ReplayLaw (caused_chase ms budget) }
 {}
 
-/// A step all of whose reads still have their values is the step that would be made now.
+/// If all reads of a step still have their values, it is the step that would be made now.
 pub fn valid_reads_make_a_step()
     ensures { (ms : List Rule) (budget : ℕ) → 1 ≤ budget → PlanLaw (caused_chase ms budget) }
 {}
 
-/// At one state and event each update that restarts with precise dependences restarts with coarse ones.
+/// At the same state and event, each update that restarts with precise dependences also restarts with coarse ones.
 pub fn precise_restarts_are_coarse()
     ensures { (ms : List Rule) (budget : ℕ) → 1 ≤ budget → DepsLaw (caused_chase ms budget) }
 {}
 
-/// Each abort has a cause that holds, named once in the event's entry: the reader's first read that lost its value to the
-/// writes, or its first read that depends on the aborted updates below it, with the least of them that wrote what it reads.
+/// Each restart has a cause that holds, which stands once in the event's entry. The cause is the reader's first read whose value
+/// the writes changed, or its first read that depends on updates below it that lost their writes, with the least of these that
+/// wrote what it reads.
 pub fn aborts_have_causes()
     ensures { (ms : List Rule) (budget : ℕ) → 1 ≤ budget → CauseLaw (caused_chase ms budget) }
 {}
 
-/// Each event is allowed just where the standing of its update says so, and a question is there just where it is paused.
+/// Each event is allowed exactly if the standing of its update says so, and there is a question exactly if the update is paused.
 pub fn standings_allow_events()
     ensures { (ms : List Rule) (budget : ℕ) → AllowedLaw (caused_chase ms budget) }
 {}
 
-/// One walk upwards finds the conflict set and the cascade, and restarts just the updates that they name.
+/// A single walk upwards finds the conflict set and the cascade, and restarts exactly the updates that they name.
 pub fn one_walk_settles()
     ensures { (ms : List Rule) (budget : ℕ) → WalkLaw (caused_chase ms budget) }
 {}
 
-/// The cascade of an event is that of all updates from the first on, given the numbers of its first members.
+/// The cascade of an event is the cascade of all updates from the first on, given the numbers of its first members.
 pub fn cascades_start_at_the_base()
     ensures { (ms : List Rule) (budget : ℕ) → 1 ≤ budget → CallLaw (caused_chase ms budget) }
 {}
 
-/// A query that mentions no relation which an event touches below an update, by adding writes or taking them away, has the
-/// same value there before and after it.
+/// If a query mentions no relation that an event touches below an update, by adding writes or taking them away, its value there
+/// is the same before and after the event.
 pub fn untouched_values_stay()
     ensures { (ms : List Rule) (budget : ℕ) → 1 ≤ budget → StampLaw (caused_chase ms budget) }
 {}
 
-/// The trail of an update is what the entries of its present attempt show that it wrote.
+/// The trail of an update is the writes in the entries of its present attempt.
 pub fn histories_tell_the_trails()
     ensures { (ms : List Rule) (budget : ℕ) → 1 ≤ budget → TrailLaw (caused_chase ms budget) }
 {}
 
-/// Each step and each delivery lowers the work that is left, so making them while one is allowed comes to an end.
+/// Each step and each delivery lowers the work that is left, so a run of allowed steps and deliveries ends.
 pub fn steps_and_deliveries_end()
     ensures { (ms : List Rule) (budget : ℕ) → 1 ≤ budget → WorkLaw (caused_chase ms budget) }
 {}
 
-/// A step of the lowest ready update, else a delivery to the lowest that can have one, is allowed while it isn't quiet, and
-/// making them comes to an end where it is quiet, within the work that is left.
+/// As long as a history is not quiet, a step of the lowest ready update, or else a delivery to the lowest update that can have
+/// one, is allowed. A run of such events ends in a quiet history, within the work that is left.
 pub fn drains_end_quiet()
     ensures { (ms : List Rule) (budget : ℕ) → 1 ≤ budget → DrainLaw (caused_chase ms budget) }
 {}
 
-/// Each update does what it was handed in to do; without live answers and withdrawals it has the answers recorded for it.
+/// Each update does the operation with which it was handed in. Without live answers and withdrawals it has the answers recorded
+/// for it.
 pub fn histories_keep_the_session()
     ensures { (ms : List Rule) (budget : ℕ) → RecordedLaw (caused_chase ms budget) }
 {}
 
-/// Legal histories grow by the entries of allowed events, their prefixes are legal, and each leaves one list of updates.
+/// A legal history with the entry of an allowed event is legal, prefixes of legal histories are legal, and each leaves only one
+/// list of updates.
 pub fn legal_histories_grow()
     ensures { (ms : List Rule) (budget : ℕ) → 1 ≤ budget → LegalLaw (caused_chase ms budget) }
 {}
 
-/// A history stays one when further updates are handed in.
+/// A history stays a history if further updates are handed in.
 pub fn histories_stay_with_more_updates()
     ensures { (ms : List Rule) (budget : ℕ) → LongerLaw (caused_chase ms budget) }
 {}

@@ -1,4 +1,4 @@
-//! The theorem of histories at the chase: attempts in any order leave what one after the other leaves.
+//! The theorem of histories for the chase: attempts in any order leave the same repository as updates one after the other.
 //!
 //! The definitions stand in `specs/`. Each function here is a law: its contract is the statement and its body is empty.
 #![tactic(auto)]

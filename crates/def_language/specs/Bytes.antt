@@ -19,7 +19,7 @@ is_blank b = (b == 32) || (b == 9) || (b == 13)
 abbrev pub is_line_feed : ℕ → Bool
 is_line_feed b = b == 10
 
--- how many bytes at the front are of a kind
+-- the number of bytes at the front that are of a kind
 abbrev pub run : (ℕ → Bool) → List ℕ → ℕ
 run kind bytes = prefix_len kind bytes
 

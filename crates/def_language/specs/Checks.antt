@@ -1,4 +1,4 @@
--- What each statement adds to a session, with its checks in their order.
+-- The addition of each statement to a session, with its checks in their order.
 use Rattle.std.specs.Prelude.{ℕ, ℤ, pos, negsuc, ◌+◌, Bool, false, not, ◌&&◌, ◌||◌, ◌==◌, nat_le, List, [], ◌∷◌, ◌++◌, map, length, Option, Some, None, slice_get, slice_set, Result, Ok, Err, if◌then◌else◌}
 use Rattle.def_chase.specs.Values.{Unknown}
 use Rattle.def_chase.specs.Repository.{Insert, has, change}
@@ -15,7 +15,7 @@ use Rattle.def_language.specs.Forms.{natural}
 use Rattle.def_language.specs.Cycles.{has_plain_cycle}
 use Rattle.def_language.specs.Meaning.{nulls_within, bounded_fact, mapping_of}
 
--- the name is none of the list
+-- the name is not in the list
 abbrev pub unused : List Name → Name → Result (Unit {0}) Kind
 unused names n = if is_one_of names n then Err (DuplicateName n) else Ok tt
 
@@ -36,19 +36,19 @@ add_relation s n columns = do
   room ← within limit.Relations (nat_le (most_relations s.format) (length s.relations))
   Ok (record s { relations = s.relations ++ record { name = n; arity = natural columns } ∷ [] })
 
--- there is no room for one more mapping, added by the given update or there from the start
+-- there is no room for one more mapping, which update `since` adds or, if `since` is 0, is there from the start
 abbrev pub mappings_full : List SessionMapping → ℕ → Bool
 mappings_full mappings since = nat_le 64 (length mappings) || (not (since == 0) && nat_le 16 (length (added_mappings mappings)))
 
--- what the mappings say
+-- the rules of the mappings
 abbrev pub rules_of : List SessionMapping → List Rule
 rules_of mappings = map (λ m. m.rule) mappings
 
--- the mappings have no plain cycle once this one is added
+-- the mappings have no plain cycle after this one is added
 abbrev pub acyclic : SessionData → SessionMapping → Result (Unit {0}) Kind
 acyclic s m = if has_plain_cycle (length s.relations) (rules_of (s.mappings ++ m ∷ [])) then Err (PlainCycle m.name) else Ok tt
 
--- mapping NAME : .., of the session or of an update
+-- mapping NAME : .., of the session, or of an update
 unfoldable pub add_mapping : SessionData → ℕ → WrittenMapping → Result SessionData Kind
 add_mapping s since written = do
   fresh ← unused (mapping_names s.mappings) written.name
@@ -68,7 +68,7 @@ add_tuple s fact = do
 abbrev pub Performed : Type 0
 Performed = Operation × SessionData
 
--- The operation of the update that follows those of the session. Its nulls come from updates below it.
+-- The operation of the next update of the session. Its nulls must come from updates below it.
 unfoldable pub operation_of : SessionData → WrittenOperation → Result Performed Kind
 operation_of s (InsertFact fact) = bounded_fact s.relations (length s.updates) fact >>= (λ t. Ok (Adds t, s))
 operation_of s (DeleteFact fact) = bounded_fact s.relations (length s.updates) fact >>= (λ t. Ok (Removes t, s))
@@ -88,7 +88,7 @@ add_update s label curator written = do
   performed ← operation_of s written
   Ok (record performed.1 { updates = s.updates ++ record { label = label; curator = curator; operation = performed.0; answers = [] } ∷ [] })
 
--- An answer to a question of the given update. Its nulls come from updates up to that one.
+-- An answer to a question of update `most`. Its nulls must come from updates up to that one.
 unfoldable pub choice_of : List RelationSchema → ℕ → WrittenChoice → Result Choice Kind
 choice_of relations most ExpandFact = Ok Expand
 choice_of relations most (UnifyFact fact) = bounded_fact relations most fact >>= (λ t. Ok (Unify t))
@@ -98,7 +98,7 @@ choice_of relations most (DeleteFacts facts) = each (bounded_fact relations most
 abbrev pub with_answer : SessionUpdate → Choice → SessionUpdate
 with_answer u choice = record u { answers = u.answers ++ choice ∷ [] }
 
--- an answer to the update that was found at a place, if one was
+-- an answer to the update at a place, if there is one
 abbrev pub answered : SessionData → Name → WrittenChoice → ℕ → Option SessionUpdate → Result SessionData Kind
 answered s label written place None = Err (UnknownLabel label)
 answered s label written place (Some u) = do
@@ -110,7 +110,7 @@ answered s label written place (Some u) = do
 unfoldable pub add_answer : SessionData → Name → WrittenChoice → Result SessionData Kind
 add_answer s label written = answered s label written (place_of (labels s.updates) label) (slice_get s.updates (place_of (labels s.updates) label))
 
--- the session with what a statement adds
+-- the session with the addition of a statement
 abbrev pub taken : SessionData → Statement → Result SessionData Kind
 taken s (Header format) = Ok (empty_session format)
 taken s (Relation n columns) = add_relation s n columns

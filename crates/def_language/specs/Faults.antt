@@ -1,4 +1,4 @@
--- What can be wrong with a session, its number and its words.
+-- The faults of a session, with their numbers and texts.
 use Rattle.std.specs.Prelude.{ℕ, ◌+◌, List, ◌∷◌, ◌++◌, codes}
 use Rattle.std.specs.Fmt.{decimal}
 use Rattle.def_language.specs.declared.tokens.LexRefusal.{LexRefusal}
@@ -8,7 +8,7 @@ use Rattle.def_language.specs.declared.Wanted.TheVariants as missing
 use Rattle.def_language.specs.declared.Which.{Which}
 use Rattle.def_language.specs.declared.Which.TheVariants as limit
 
--- The kinds of faults with what they carry. Names are bytes; places count bytes of the input from 0.
+-- The kinds of faults with their data. Names are bytes; places count bytes of the input from 0.
 pub data Kind : Type 0 where
   UnknownRelation : List ℕ → Kind
   Arity : List ℕ → ℕ → ℕ → Kind
@@ -33,8 +33,8 @@ pub record Wrong : Type 0 where
   pub line : ℕ
   pub kind : Kind
 
--- A lexical fault of a line that begins at a place. A line is never wrong by want of memory; of the lexer's answers
--- that one alone is no fault.
+-- The fault for a lexer's refusal of a line that begins at a place. `Memory` is no fault of a line, and no definition gives it;
+-- its case here never occurs.
 abbrev pub lexical_kind : ℕ → LexRefusal → Kind
 lexical_kind start (lexical.BadByte place) = BadByte (start + place)
 lexical_kind start (lexical.OpenText place) = OpenText (start + place)
@@ -62,7 +62,7 @@ number_of (LimitReached which) = 24
 number_of NoEnd = 25
 number_of AfterEnd = 26
 
--- what is missing, in words
+-- the missing part, in words
 abbrev pub wanted_text : Wanted → List ℕ
 wanted_text missing.Statement = codes "statement"
 wanted_text missing.Name = codes "name"
@@ -112,6 +112,6 @@ kind_text (LimitReached which) = codes "limit reached: " ++ which_text which
 kind_text NoEnd = codes "end is missing"
 kind_text AfterEnd = codes "something follows end"
 
--- a fault and its line in words, as users are told
+-- a fault and its line in words, as users see them
 abbrev pub wrong_text : Wrong → List ℕ
 wrong_text wrong = codes "session line " ++ (decimal wrong.line ++ (codes ": fault " ++ (decimal (number_of wrong.kind) ++ (codes ": " ++ kind_text wrong.kind))))

@@ -1,4 +1,4 @@
--- Whole statements, read from the left, where they may stand.
+-- Whole statements, read from the left, each in its section.
 use Rattle.std.specs.Prelude.{ℕ, ℤ, pos, negsuc, Bool, false, ◌&&◌, ◌||◌, ◌==◌, nat_le, List, [], ◌∷◌, codes, Result, Ok, Err, if◌then◌else◌}
 use Rattle.def_chase.specs.Values.{NullName}
 use Rattle.def_language.specs.declared.Wanted.TheVariants as missing
@@ -26,7 +26,7 @@ rank Tuples = 3
 rank Updates = 4
 rank Ended = 5
 
--- the section that a statement belongs to: behind the header come the relations
+-- the section that a statement belongs to: after the header come the relations
 abbrev pub section_of : Statement → Section
 section_of (Header format) = Relations
 section_of (Relation n columns) = Relations
@@ -41,7 +41,7 @@ abbrev pub is_format : ℤ → Bool
 is_format (pos n) = (n == 1) || (n == 2)
 is_format (negsuc n) = false
 
--- a number that is not negative
+-- the number as a natural one; 0 if it is negative
 abbrev pub natural : ℤ → ℕ
 natural (pos n) = n
 natural (negsuc n) = 0
@@ -72,7 +72,7 @@ unfoldable pub replace_at : List Word → Result WrittenOperation Kind
 replace_at (null u k ∷ rest) = with_at (outer_null u k) rest
 replace_at _ = wants missing.Null
 
--- Behind a curator: insert FACT | delete FACT | replace NULL with VALUE | in format 2 also mapping NAME : ..
+-- After a curator: insert FACT | delete FACT | replace NULL with VALUE | in format 2 also mapping NAME : ..
 unfoldable pub operation_at : ℕ → List Word → Result WrittenOperation Kind
 operation_at format (name n ∷ rest) =
     if same_name n (codes "insert") then whole (fact_at rest) >>= (λ fact. Ok (InsertFact fact))
@@ -90,7 +90,7 @@ update_at format words = do
   operation ← operation_at format curator.1
   Ok (Update label.0 curator.0 operation)
 
--- Behind an answer's label: expand | unify FACT | delete FACT {, FACT}
+-- After an answer's label: expand | unify FACT | delete FACT {, FACT}
 unfoldable pub choice_at : List Word → Result WrittenChoice Kind
 choice_at (name n ∷ rest) =
     if same_name n (codes "expand") then end_at rest >>= (λ _. Ok ExpandFact)
@@ -106,7 +106,7 @@ answer_at words = do
   choice ← choice_at label.1
   Ok (Answer label.0 choice)
 
--- the first word is that of a statement whose section is not over
+-- the first word is the word of a statement whose section is not over
 abbrev pub begins : Section → Name → Name → Section → Bool
 begins section n word own = same_name n word && nat_le (rank section) (rank own)
 
@@ -121,7 +121,7 @@ named_at section format n rest =
     else if begins section n (codes "end") Ended then end_at rest >>= (λ _. Ok End)
     else wants missing.Statement
 
--- The statement of a line that is not blank, in a section of a session of a format. The first is the header.
+-- The statement of a line that is not blank, in a section of a session of a format. The first statement is the header.
 unfoldable pub statement_at : Section → ℕ → List Word → Result Statement Kind
 statement_at Beginning format words = header_at words
 statement_at section format (name n ∷ rest) = named_at section format n rest

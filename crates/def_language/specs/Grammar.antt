@@ -1,4 +1,4 @@
--- The grammar: the words of each statement. Numbers count by their values, so each statement has one list of words.
+-- The grammar: the words of each statement. A number is a word by its value, so each statement has only one list of words.
 use Rattle.std.specs.Prelude.{pos, List, [], ◌∷◌, ◌++◌, codes}
 use Rattle.def_chase.specs.Values.{NullName, Datum, Number, Text, Unknown}
 use Rattle.def_language.specs.Words.{Word, name, number, null, text, opens, closes, comma, colon, arrow}

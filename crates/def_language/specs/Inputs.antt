@@ -1,4 +1,4 @@
--- A whole input: what its lines say in order, and what the checks make of it.
+-- A whole input: the statements of its lines in order, and the session that the checks make from them.
 use Rattle.std.specs.Prelude.{◌≡◌, ℕ, ◌≤◌, ◌⊎◌, List, [], ◌∷◌, ◌++◌, Result, Ok, length}
 use Rattle.std.specs.Str.Lossy.{utf8_valid_len}
 use Rattle.std.specs.List.{AllByRecursion}
@@ -20,7 +20,7 @@ pub data Say : List (List ℕ) → List Statement → Type 0 where
   says : {line : List ℕ} {lines : List (List ℕ)} {st : Statement} {sts : List Statement} → words_at line ≡ Ok (statement_words st) → Say lines sts
       → Say (line ∷ lines) (st ∷ sts)
 
--- It is neither the header nor the end.
+-- The statement is neither the header nor the end.
 abbrev pub IsInner : Statement → Type 0
 IsInner (Header format) = ⊥
 IsInner (Relation n columns) = Unit {0}
@@ -30,21 +30,22 @@ IsInner (Update label curator operation) = Unit {0}
 IsInner (Answer label choice) = Unit {0}
 IsInner End = ⊥
 
--- Behind a statement of a section: none belongs to a section before that of another one that stands before it.
+-- The statements that follow one of this section are in order: none belongs to a section before the section of an earlier
+-- statement.
 abbrev pub AreInOrder : Section → List Statement → Type 0
 AreInOrder section [] = Unit {0}
 AreInOrder section (st ∷ sts) = IsInner st × (rank section ≤ rank (section_of st)) × AreInOrder (section_of st) sts
 
--- What the checks make of the statements, taken in turn from this session on.
+-- The session after the statements, each checked and added in turn, from this session on.
 abbrev pub taken_all : SessionData → List Statement → Result SessionData Kind
 taken_all s [] = Ok s
 taken_all s (st ∷ sts) = taken s st >>= (λ t. taken_all t sts)
 
--- The longest front of the bytes that is UTF-8 is all of them.
+-- The bytes are UTF-8: the longest prefix that is UTF-8 is all of them.
 abbrev pub IsText : List ℕ → Type 0
 IsText bytes = utf8_valid_len bytes ≡ length bytes
 
--- The bytes say this session: text, a header, statements in order, the end.
+-- The bytes say this session: they are text with a header, statements in order, and the end.
 pub record IsInput (bytes : List ℕ) (s : SessionData) : Type 0 where
   pub text : IsText bytes
   pub format : ℕ
@@ -55,6 +56,6 @@ pub record IsInput (bytes : List ℕ) (s : SessionData) : Type 0 where
   pub sayable : AllByRecursion (IsSayable format) statements
   pub checked : taken_all (empty_session format) statements ≡ Ok s
 
--- Just the bytes that say a session spell it.
+-- Exactly the bytes that say a session spell it.
 abbrev pub InputsAreStatements : Type 0
 InputsAreStatements = (bytes : List ℕ) (s : SessionData) → (Spells bytes s → IsInput bytes s) × (IsInput bytes s → Spells bytes s)

@@ -1,11 +1,11 @@
--- How words are laid out on a line.
+-- The layout of words on a line.
 use Rattle.std.specs.Prelude.{ℕ, ℤ, pos, negsuc, ◌≡◌, ◌^◌, ◌<◌, ◌≤◌, Bool, true, false, ◌&&◌, ◌||◌, ◌==◌, List, [], ◌∷◌, ◌++◌, length, flat_map, if◌then◌else◌}
 use Rattle.std.specs.Fmt.{decimal, signed_decimal}
 use Rattle.std.specs.List.{list_all}
 use Rattle.def_language.specs.Bytes.{begins_name, continues_name}
 use Rattle.def_language.specs.Words.{Word, name, number, null, text, opens, closes, comma, colon, arrow}
 
--- A byte of a text as it is written: a quote, a backslash and a line feed behind a backslash, all else as it is.
+-- A byte of a text as it is written: a quote, a backslash or a line feed (as `n`) after a backslash, any other byte as it is.
 abbrev pub written_byte : ℕ → List ℕ
 written_byte b = if b == 34 then 92 ∷ 34 ∷ [] else if b == 92 then 92 ∷ 92 ∷ [] else if b == 10 then 92 ∷ 110 ∷ [] else b ∷ []
 
@@ -17,7 +17,7 @@ quoted t = 34 ∷ (flat_map written_byte t ++ 34 ∷ [])
 abbrev pub null_text : ℕ → ℕ → List ℕ
 null_text u k = 63 ∷ (decimal u ++ (46 ∷ decimal k))
 
--- how a word is spelled: numbers in plain decimal, with a `-` only where they are negative
+-- the spelling of a word: numbers in plain decimal, with a `-` only if they are negative
 abbrev pub spelled : Word → List ℕ
 spelled (name n) = n
 spelled (number z) = signed_decimal z
@@ -33,7 +33,7 @@ abbrev pub is_open : Word → Bool
 is_open opens = true
 is_open _ = false
 
--- a sign that stands directly behind the word before it
+-- the word is a sign that stands directly after the word before it
 abbrev pub is_tight : Word → Bool
 is_tight opens = true
 is_tight closes = true
@@ -41,7 +41,7 @@ is_tight comma = true
 is_tight colon = true
 is_tight _ = false
 
--- one space between two words, but none behind `(`, or before `(`, `)`, `,` and `:`
+-- one space between two words, but none after `(`, or before `(`, `)`, `,` and `:`
 abbrev pub gap : Word → Word → List ℕ
 gap w v = if is_open w || is_tight v then [] else 32 ∷ []
 

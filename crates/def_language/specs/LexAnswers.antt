@@ -1,9 +1,9 @@
--- What the lexer's functions answer, beside what is read by definition.
+-- The answers of the lexer's functions.
 use Rattle.std.specs.Prelude.{◌≡◌, ℕ, Result, Ok, Err}
 use Rattle.def_language.specs.declared.tokens.LexRefusal.{LexRefusal}
 use Rattle.def_language.specs.declared.tokens.LexRefusal.TheVariants.{BadByte, OpenText, WideNumber, LongText, Memory}
 
--- the place that a fault carries
+-- the place of a fault
 abbrev pub place_in : LexRefusal → ℕ
 place_in (BadByte place) = place
 place_in (OpenText place) = place
@@ -11,7 +11,7 @@ place_in (WideNumber place) = place
 place_in (LongText place) = place
 place_in Memory = 0
 
--- what is read, and then what is made of it
+-- the result of reading, passed on to `then`; a refusal stays
 infixl 10 ◌>>=◌
 abbrev pub ◌>>=◌ : {A B : Type 0} → Result A LexRefusal → (A → Result B LexRefusal) → Result B LexRefusal
 (Ok x) >>= then = then x

@@ -6,12 +6,12 @@ use Rattle.def_language.specs.LexAnswers.{◌>>=◌}
 use Rattle.def_language.specs.Bytes.{is_blank}
 use Rattle.def_language.specs.Tokens.{token_at}
 
--- tokens, and then those that are read
+-- the tokens, followed by those that are read
 abbrev pub with_front : List Token → Result (List Token) LexRefusal → Result (List Token) LexRefusal
 with_front tokens read = read >>= (λ others. Ok (tokens ++ others))
 
--- The tokens of what is left of a line at a place, or its leftmost fault. The first `inside` bytes belong to the
--- token before. Blanks stand between tokens, and a `#` begins a comment, which fills the line.
+-- The tokens of the rest of a line, which stands at a place, or its leftmost fault. The first `inside` bytes belong to the token
+-- before. Blanks stand between tokens, and a `#` begins a comment, which goes on to the end of the line.
 unfoldable pub tokens_at : ℕ → ℕ → List ℕ → Result (List Token) LexRefusal
 tokens_at place inside [] = Ok []
 tokens_at place (suc inside) (b ∷ rest) = tokens_at (place + 1) inside rest
@@ -24,6 +24,6 @@ tokens_at place zero (b ∷ rest) =
 abbrev pub tokens_from : ℕ → List ℕ → Result (List Token) LexRefusal
 tokens_from place line = tokens_at place 0 (drop place line)
 
--- whether nothing is wrong with a line from a place on
+-- whether a line has no fault from a place on
 abbrev pub is_faultless : ℕ → List ℕ → Bool
 is_faultless place line = is_ok (tokens_from place line)

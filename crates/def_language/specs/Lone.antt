@@ -13,11 +13,11 @@ use Rattle.def_language.specs.Statements.{WrittenFact}
 use Rattle.def_language.specs.Validity.{IsFact}
 use Rattle.def_language.specs.Words.{words_at}
 
--- a tuple of a relation, whatever updates its nulls are of
+-- a tuple of one of the relations, whatever updates its nulls are from
 abbrev pub IsTuple : List RelationSchema → Fact → Type 0
 IsTuple relations t = IsFact relations (2 ^ 32 - 1) t
 
--- the fact that the words of a line are
+-- the fact that the words of a line spell
 abbrev pub lone_fact : List ℕ → Result WrittenFact Kind
 lone_fact line = placed_words 0 (words_at line) >>= (λ words. whole (fact_at words))
 

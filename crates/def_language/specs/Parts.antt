@@ -1,4 +1,4 @@
--- The parts of statements, read from the left. What is wanted at the first word that does not fit is the fault.
+-- The parts of statements, read from the left. The fault is the part that is missing at the first word that does not fit.
 use Rattle.std.specs.Prelude.{ℕ, Bool, true, false, List, [], ◌∷◌, length, Result, Ok, if◌then◌else◌}
 use Rattle.def_chase.specs.Values.{NullName, Datum, Number, Text, Unknown}
 use Rattle.def_language.specs.declared.Wanted.{Wanted}
@@ -25,7 +25,7 @@ unfoldable pub end_at : List Word → Result (Unit {0}) Kind
 end_at [] = Ok tt
 end_at (_ ∷ _) = wants missing.EndOfLine
 
--- what is read, where the line ends behind it
+-- the result of reading, if the line ends after it
 unfoldable pub whole : {A : Type 0} → Result (A × List Word) Kind → Result A Kind
 whole read = read >>= (λ x. end_at x.1 >>= (λ _. Ok x.0))
 
@@ -55,7 +55,7 @@ abbrev pub is_close : Word → Bool
 is_close closes = true
 is_close _ = false
 
--- an item, whether a comma stands behind it, and what stands behind that or behind the parenthesis
+-- an item, whether a comma follows it, and the words after the comma or the parenthesis
 unfoldable pub item_at : {A : Type 0} → Wanted → (Word → Result A Kind) → List Word → Result (A × Bool × List Word) Kind
 item_at wanted item [] = wants wanted
 item_at wanted item (w ∷ []) = item w >>= (λ _. wants missing.CommaOrClose)
@@ -84,13 +84,13 @@ atom_at words = do
   terms ← items_at missing.Term term_of inside
   Ok (record { relation = relation.0; terms = terms.0 }, terms.1)
 
--- what stands behind an atom of the left side
+-- the sign after an atom of the left side: `,` or `->`
 abbrev pub left_sign : WrittenAtom → List Word → Result (WrittenAtom × Bool × List Word) Kind
 left_sign atom (comma ∷ rest) = Ok (atom, true, rest)
 left_sign atom (arrow ∷ rest) = Ok (atom, false, rest)
 left_sign atom _ = wants missing.CommaOrArrow
 
--- what stands behind an atom of the right side, or a fact of an answer
+-- the sign after an atom of the right side or a fact of an answer: `,` or none, at the end of the line
 abbrev pub last_sign : {A : Type 0} → A → List Word → Result (A × Bool × List Word) Kind
 last_sign x [] = Ok (x, false, [])
 last_sign x (comma ∷ rest) = Ok (x, true, rest)

@@ -24,12 +24,12 @@ value_text inner (Number z) = signed_decimal z
 value_text inner (Text t) = quoted t
 value_text inner (Unknown n) = null_name_text inner n
 
--- items with a comma and a space between
+-- items with a comma and a space between them
 abbrev pub joined_text : {A : Type 0} → (A → List ℕ) → List A → List ℕ
 joined_text text [] = []
 joined_text text (x ∷ xs) = text x ++ flat_map (λ y. 44 ∷ 32 ∷ text y) xs
 
--- A tuple: its relation and its values. One that says that a mapping was put in force is `*` and its number.
+-- A tuple: its relation and its values. A tuple that says that a mapping was put in force is `*` and the mapping's number.
 abbrev pub tuple_text : List RelationSchema → Bool → Fact → List ℕ
 tuple_text relations inner t =
     if t.relation == force_relation then 42 ∷ joined_text (value_text inner) t.values
@@ -50,11 +50,11 @@ abbrev pub written_mapping : List RelationSchema → SessionMapping → WrittenM
 written_mapping relations m =
     record { name = m.name; left = map (written_atom relations m.variables) m.rule.left; right = map (written_atom relations m.variables) m.rule.right }
 
--- where there is no mapping of that number
+-- the mapping that stands for a number that no mapping has
 abbrev pub no_mapping : SessionMapping
 no_mapping = record { name = []; variables = []; rule = record { since = 0; universal = 0; existential = 0; left = []; right = [] } }
 
--- an update's operation; a mapping that it adds is written there
+-- an update's operation, with the mapping that it adds written out
 abbrev pub written_operation : SessionData → Operation → WrittenOperation
 written_operation s (Adds t) = InsertFact (written_fact s.relations t)
 written_operation s (Removes t) = DeleteFact (written_fact s.relations t)
@@ -88,7 +88,7 @@ line_text statement = laid_out (statement_words statement) ++ 10 ∷ []
 abbrev pub printed : SessionData → List ℕ
 printed s = flat_map line_text (statements_of s)
 
--- what the command `format` writes of what was read
+-- the output of the command `format` on the session that was read; empty if none was
 abbrev pub printed_text : Result SessionData Wrong → List ℕ
 printed_text (Ok s) = printed s
 printed_text (Err wrong) = []

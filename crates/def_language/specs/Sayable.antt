@@ -1,4 +1,4 @@
--- Which statements have a spelling: those that some words say, where they may stand.
+-- The statements that have a spelling: some words say them, where they may stand.
 use Rattle.std.specs.Prelude.{◌≡◌, ℕ, ◌≤◌, ◌⊎◌, length}
 use Rattle.std.specs.List.{AllByRecursion}
 use Rattle.def_chase.specs.Values.{Datum, Number, Text, Unknown}
@@ -11,7 +11,7 @@ IsOuter (Number z) = Unit {0}
 IsOuter (Text t) = Unit {0}
 IsOuter (Unknown n) = n.attempt ≡ 0
 
--- a variable or a constant, which is no null
+-- a variable, or a constant that is no null
 abbrev pub IsTerm : WrittenTerm → Type 0
 IsTerm (Variable n) = Unit {0}
 IsTerm (Constant (Number z)) = Unit {0}
@@ -51,8 +51,8 @@ IsSayable format (Update label curator operation) = IsWrittenOperation format op
 IsSayable format (Answer label choice) = IsWrittenChoice choice
 IsSayable format End = Unit {0}
 
--- The statement may stand in a section: the header at the beginning and there alone, all else where its own section
--- is not over.
+-- The statement may stand in a section: the header only at the beginning, any other statement as long as its own section is not
+-- over.
 abbrev pub MayStand : Section → Statement → Type 0
 MayStand Beginning (Header format) = Unit {0}
 MayStand Beginning statement = ⊥

@@ -10,7 +10,7 @@ pub record RelationSchema : Type 0 where
   pub name : Name
   pub arity : ℕ
 
--- a mapping: its name, the names of its variables by their numbers, and what it says
+-- a mapping: its name, the names of its variables by their numbers, and its rule
 pub record SessionMapping : Type 0 where
   pub name : Name
   pub variables : List Name
@@ -23,8 +23,8 @@ pub record SessionUpdate : Type 0 where
   pub operation : Operation
   pub answers : List Choice
 
--- A session. Relations and mappings are numbered from 0 by their places in the lists, updates from 1. The mappings
--- that updates add stand behind the others. The base is in tuple order and has each tuple once.
+-- A session. Relations and mappings are numbered from 0 by their places in the lists, updates from 1. The mappings that updates
+-- add come after the others. The base is in tuple order and has each tuple once.
 pub record SessionData : Type 0 where
   pub format : ℕ
   pub relations : List RelationSchema
@@ -32,7 +32,7 @@ pub record SessionData : Type 0 where
   pub base : List Fact
   pub updates : List SessionUpdate
 
--- what the header of a format leaves
+-- the session after the header of a format
 abbrev pub empty_session : ℕ → SessionData
 empty_session format = record { format = format; relations = []; mappings = []; base = []; updates = [] }
 
@@ -49,11 +49,11 @@ labels updates = map (λ u. u.label) updates
 abbrev pub curators : List SessionUpdate → List Name
 curators updates = firsts same_name (map (λ u. u.curator) updates)
 
--- the answers of all updates
+-- the number of answers of all updates
 abbrev pub answer_count : List SessionUpdate → ℕ
 answer_count updates = sum_by (λ u. length u.answers) updates
 
--- a mapping that stands among the mappings of the session, not one that an update adds
+-- the mapping is one of the session's own, not one that an update adds
 abbrev pub is_initial : SessionMapping → Bool
 is_initial m = m.rule.since == 0
 

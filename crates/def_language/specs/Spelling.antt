@@ -1,4 +1,4 @@
--- What spells a token of each kind, and what it says.
+-- The spellings of tokens of each kind, and the meanings of tokens.
 use Rattle.std.specs.Prelude.{◌≡◌, ◌<◌, ◌≤◌, ℕ, ℤ, pos, neg_ℤ, ◌+◌, ◌-◌, Bool, true, false, ◌&&◌, not, nat_le, ◌==◌, List, [], ◌∷◌, take, drop, length, Result, Ok, Err, if◌then◌else◌}
 use Rattle.std.specs.List.{list_all}
 use Rattle.def_language.specs.declared.tokens.TokenKind.{TokenKind}
@@ -9,29 +9,29 @@ use Rattle.def_language.specs.Bytes.{begins_name, continues_name, is_digit, run,
 use Rattle.def_language.specs.Numbers.{digits_value, is_wide, is_wide_part}
 use Rattle.def_language.specs.QuotedTexts.{text_from}
 
--- one digit or more, and nothing else
+-- the bytes are digits, at least one
 abbrev pub are_digits : List ℕ → Bool
 are_digits bytes = not (length bytes == 0) && list_all is_digit bytes
 
--- the part of a null before its point, and the one behind it
+-- the part of a null before its point, and the part after it
 abbrev pub first_part : List ℕ → List ℕ
 first_part rest = digits_of rest
 
 abbrev pub second_part : List ℕ → List ℕ
 second_part rest = drop (run is_digit rest + 1) rest
 
--- what stands at the point of a null
+-- the bytes begin with a point
 abbrev pub has_point : List ℕ → Bool
 has_point [] = false
 has_point (b ∷ rest) = b == 46
 
--- behind the `?` of a null
+-- the bytes after the `?` of a null
 abbrev pub spells_null : List ℕ → Bool
 spells_null rest =
     are_digits (first_part rest) && not (is_wide_part (first_part rest)) && has_point (drop (run is_digit rest) rest)
     && are_digits (second_part rest) && not (is_wide_part (second_part rest))
 
--- a text that ends at the end of so many bytes, and says at most 256
+-- the text ends at the end of `size` bytes, and stands for at most 256
 abbrev pub is_whole : ℕ → Result (List ℕ × ℕ) LexRefusal → Bool
 is_whole size (Ok x) = nat_le (length x.0) 256 && (x.1 == size)
 is_whole size (Err refusal) = false
@@ -53,11 +53,11 @@ spells Colon (b ∷ rest) = (b == 58) && (length rest == 0)
 spells Arrow (b ∷ []) = false
 spells Arrow (b ∷ c ∷ rest) = (b == 45) && (c == 62) && (length rest == 0)
 
--- no more than so many of the bytes, from the first on, spell a token
+-- no prefix of more than `width` of the bytes spells a token
 abbrev pub IsLongest : List ℕ → ℕ → Type 0
 IsLongest bytes width = (kind : TokenKind) (n : ℕ) → width < n → n ≤ length bytes → spells kind (take n bytes) ≡ false
 
--- the bytes of a token, where the first byte stands at the place `start`
+-- the bytes of a token, if the first of all bytes stands at the place `start`
 abbrev pub spelling_at : ℕ → List ℕ → Token → List ℕ
 spelling_at start bytes token = take (token.to - token.from) (drop (token.from - start) bytes)
 
@@ -85,6 +85,6 @@ abbrev pub said : Result (List ℕ × ℕ) LexRefusal → List ℕ
 said (Ok x) = x.0
 said (Err refusal) = []
 
--- what the text that bytes spell says
+-- the bytes that the text stands for which these bytes spell
 abbrev pub text_of : List ℕ → List ℕ
 text_of spelling = said (text_from 0 1 (drop 1 spelling))

@@ -22,14 +22,14 @@ pub record WrittenMapping : Type 0 where
   pub left : List WrittenAtom
   pub right : List WrittenAtom
 
--- what an update does
+-- the operation of an update
 pub data WrittenOperation : Type 0 where
   InsertFact : WrittenFact → WrittenOperation
   DeleteFact : WrittenFact → WrittenOperation
   ReplaceNull : NullName → Datum → WrittenOperation
   AddMapping : WrittenMapping → WrittenOperation
 
--- what an answer says
+-- the choice of an answer
 pub data WrittenChoice : Type 0 where
   ExpandFact : WrittenChoice
   UnifyFact : WrittenFact → WrittenChoice

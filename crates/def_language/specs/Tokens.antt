@@ -1,4 +1,4 @@
--- The longest token at the front of some bytes of a line, or what is wrong there.
+-- The longest token at the front of some bytes of a line, or the fault there.
 use Rattle.std.specs.Prelude.{ℕ, ◌+◌, Bool, true, false, ◌||◌, ◌==◌, List, [], ◌∷◌, drop, length, Option, Some, None, Result, Ok, Err, if◌then◌else◌}
 use Rattle.def_language.specs.declared.tokens.TokenKind.{TokenKind}
 use Rattle.def_language.specs.declared.tokens.TokenKind.TheVariants.{Name, Number, Null, Open, Close, Comma, Colon, Arrow}
@@ -8,7 +8,7 @@ use Rattle.def_language.specs.Bytes.{begins_name, continues_name, is_digit, run,
 use Rattle.def_language.specs.Numbers.{is_wide, is_wide_part}
 use Rattle.def_language.specs.QuotedTexts.{text_at}
 
--- a token's kind and how many bytes spell it, or what is wrong
+-- a token's kind and the number of bytes that spell it, or the fault
 abbrev pub Found : Type 0
 Found = Result (TokenKind × ℕ) LexRefusal
 
@@ -19,12 +19,12 @@ number_at place negative sign digits =
     else if is_wide negative (digits_of digits) then Err (WideNumber place)
     else Ok (Number, sign + run is_digit digits)
 
--- behind a `-`: an arrow or the digits of a number
+-- after a `-`: an arrow, or the digits of a number
 unfoldable pub minus_at : ℕ → List ℕ → Found
 minus_at place [] = Err (BadByte place)
 minus_at place (b ∷ rest) = if b == 62 then Ok (Arrow, 2) else number_at place true 1 (b ∷ rest)
 
--- a null behind its first part: a point and the second part
+-- a null after its first part: a point and the second part
 unfoldable pub point_at : ℕ → List ℕ → List ℕ → Found
 point_at place update [] = Err (BadByte place)
 point_at place update (b ∷ rest) =
@@ -34,13 +34,13 @@ point_at place update (b ∷ rest) =
     else Ok (Null, length update + 2 + run is_digit rest))
     else Err (BadByte place)
 
--- a null behind its `?`
+-- a null after its `?`
 unfoldable pub null_at : ℕ → List ℕ → Found
 null_at place rest =
     if run is_digit rest == 0 then Err (BadByte place)
     else point_at place (digits_of rest) (drop (run is_digit rest) rest)
 
--- the token that a byte is by itself
+-- the kind of the token that a byte spells by itself, if it does
 abbrev pub sign : ℕ → Option TokenKind
 sign b = if b == 40 then Some Open else if b == 41 then Some Close else if b == 44 then Some Comma else if b == 58 then Some Colon else None
 

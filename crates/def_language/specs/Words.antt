@@ -1,4 +1,4 @@
--- What the tokens of a line say.
+-- The words that the tokens of a line say.
 use Rattle.std.specs.Prelude.{ℕ, ℤ, List, map, Result, Ok}
 use Rattle.def_language.specs.declared.tokens.TokenKind.{TokenKind}
 use Rattle.def_language.specs.declared.tokens.TokenKind.TheVariants.{Name, Number, Null, Text, Open, Close, Comma, Colon, Arrow}
@@ -8,8 +8,8 @@ use Rattle.def_language.specs.LexAnswers.{◌>>=◌}
 use Rattle.def_language.specs.LineTokens.{tokens_at}
 use Rattle.def_language.specs.Spelling.{spelling_at, number_of, null_of, text_of}
 
--- A word of a line: what a token says, however it is spelled. A number and the two parts of a null (update and
--- place) count by their values, a text by the bytes that it stands for.
+-- A word of a line: the meaning of a token, however it is spelled. A number and the two parts of a null (update and place) are
+-- given by their values, a text by the bytes that it stands for.
 pub data Word : Type 0 where
   name : List ℕ → Word
   number : ℤ → Word
@@ -21,7 +21,7 @@ pub data Word : Type 0 where
   colon : Word
   arrow : Word
 
--- what a token of a kind says, spelled so
+-- the word of a token of this kind and spelling
 abbrev pub said : TokenKind → List ℕ → Word
 said Name spelling = name spelling
 said Number spelling = number (number_of spelling)
@@ -33,7 +33,7 @@ said Comma spelling = comma
 said Colon spelling = colon
 said Arrow spelling = arrow
 
--- what a token of a line says
+-- the word of a token of a line
 abbrev pub word_of : List ℕ → Token → Word
 word_of line token = said token.kind (spelling_at 0 line token)
 

@@ -22,13 +22,13 @@ ghost use Rattle.def_language.specs.Statements.{Statement};
 ghost use Rattle.def_language.specs.Texts.{HasMembers, fact_text, statement_text};
 ghost use Rattle.def_language.specs.Words.{Word, words_at};
 
-/// Words that are laid out on a line are read from it again.
+/// Reading a line on which words are laid out gives the words back.
 pub fn words_are_read_again()
     ensures { (words : List Word) → AllByRecursion IsSpoken words →
         words_at (laid_out words) ≡ Ok words }
 {}
 
-/// The closure decides what leads to what, and so whether mappings have a plain cycle.
+/// The closure decides which relation leads to which, and so whether mappings have a plain cycle.
 pub fn closure_decides()
     ensures paths { (edge : ℕ → ℕ → Bool) (n r s : ℕ) →
         Decides (through edge n r s) (Path edge n r s) }
@@ -36,7 +36,7 @@ pub fn closure_decides()
         Decides (has_plain_cycle n ms) (HasPlainCycle n ms) }
 {}
 
-/// The words of a statement are read as the statement, where it may stand.
+/// The words of a statement are read as the statement, if it may stand there.
 pub fn statements_are_read_again()
     ensures { (section : Section) (format : ℕ) (st : Statement) → MayStand section st →
         IsSayable format st → statement_at section format (statement_words st) ≡ Ok st }
@@ -47,8 +47,8 @@ pub fn sessions_are_read_again()
     ensures { (s : SessionData) → IsSession s → Spells (printed s) s }
 {}
 
-/// Words are read as a statement only where they are the words of that statement, which has a
-/// spelling and may stand there.
+/// Words are read as a statement only if they are the words of that statement, and the statement has a spelling and may stand
+/// there.
 pub fn nothing_else_is_read()
     ensures { (section : Section) (format : ℕ) (words : List Word) (st : Statement) →
         statement_at section format words ≡ Ok st →
@@ -60,8 +60,8 @@ pub fn spelled_sessions_are_valid()
     ensures { (bytes : List ℕ) (s : SessionData) → Spells bytes s → IsSession s }
 {}
 
-/// Every input has one answer: the session that it spells, or what is wrong with it first. What it
-/// spells is printed in a form that spells it too.
+/// Every input has exactly one answer: the session that it spells, or its first fault. The printed form of that session spells it
+/// too.
 pub fn every_input_has_one_answer()
     ensures some { (bytes : List ℕ) → ((s : SessionData) × Spells bytes s) ⊎
         ((wrong : Wrong) × IsFirstFault bytes wrong) }
@@ -75,13 +75,13 @@ pub fn every_input_has_one_answer()
         Spells (printed s) s }
 {}
 
-/// Bytes that are not UTF-8 are wrong first at the end of their longest front that is.
+/// The first fault of bytes that are not UTF-8 is at the end of their longest prefix that is.
 pub fn bytes_are_text_first()
     ensures { (bytes : List ℕ) (place : ℕ) → IsValidUpTo bytes place →
         IsFirstFault bytes (record { line = line_number bytes place; kind = BadByte place }) }
 {}
 
-/// The 65th relation is one too many in format 1, and none in format 2.
+/// The 65th relation is too many in format 1, but not in format 2.
 pub fn format_2_has_more_relations()
     ensures in_1 { (s : SessionData) (n : Name) → s.format ≡ 1 → length s.relations ≡ 64 →
         is_one_of (relation_names s.relations) n ≡ false →
@@ -92,7 +92,7 @@ pub fn format_2_has_more_relations()
         Ok (record s { relations = s.relations ++ record { name = n; arity = 1 } ∷ [] }) }
 {}
 
-/// What is laid out of a statement's words, and so the printed form, written out directly.
+/// The layout of a statement's words, and so the printed form, written out directly.
 pub fn statements_are_written_directly()
     ensures session { (s : SessionData) → IsSession s →
         printed s ≡ flat_map (λ st. statement_text st ++ 10 ∷ []) (statements_of s) }

@@ -1,6 +1,6 @@
-//! The language of sessions: its words, its statements and their checks, what bytes spell, what is
-//! wrong with them first, the printed form, and the laws that join these. All of it is definitions;
-//! the programs that read and print cite them in their contracts.
+//! The language of sessions: its words, its statements and their checks, the session that bytes spell or their first fault, the
+//! printed form, and the laws that join these. All of these are definitions, which the programs that read and print cite in their
+//! contracts.
 #![tactic(auto)]
 
 mod facts;
@@ -21,7 +21,7 @@ pub use rows::{
     check_faults, form_faults, lexical_faults, printed_sessions, printed_tuples, wanted_faults,
 };
 
-/// What is missing at the first token of a line that does not fit its form.
+/// The part that is missing at the first token of a line that does not fit the form.
 #[derive(Clone, Copy, Debug, PartialEq, Eq)]
 pub enum Wanted {
     /// A word that begins a statement which may stand here.
@@ -34,27 +34,27 @@ pub enum Wanted {
     Colon,
     /// `(`
     Open,
-    /// `,` or `)`, behind a term or a value.
+    /// `,` or `)`, after a term or a value.
     CommaOrClose,
     /// A name, a number or a text, in an atom.
     Term,
-    /// A number, a text or a null, in a fact or behind `with`.
+    /// A number, a text or a null, in a fact or after `with`.
     Value,
     /// A null.
     Null,
     /// A name or `->`, at the start of a mapping's left side.
     NameOrArrow,
-    /// `,` or `->`, behind an atom of the left side.
+    /// `,` or `->`, after an atom of the left side.
     CommaOrArrow,
     /// A name or the end of the line, at the start of a mapping's right side.
     NameOrEnd,
-    /// `,` or the end of the line, behind an atom of the right side or a fact of an answer.
+    /// `,` or the end of the line, after an atom of the right side or a fact of an answer.
     CommaOrEnd,
-    /// The word of an operation, behind a curator.
+    /// The word of an operation, after a curator.
     Operation,
     /// The word `with`.
     With,
-    /// The word of an answer, behind its label.
+    /// The word of an answer, after its label.
     Choice,
     /// The end of the line.
     EndOfLine,
@@ -65,16 +65,16 @@ pub enum Wanted {
 pub enum Which {
     /// The columns of a relation: 1 to 8.
     Arity,
-    /// The relations: 64, in format 2 128.
+    /// The relations: 64, or 128 in format 2.
     Relations,
     /// The mappings: 64, of which updates add at most 16.
     Mappings,
-    /// The distinct tuples of the base: 20,000, in format 2 100,000.
+    /// The distinct tuples of the base: 20,000, or 100,000 in format 2.
     Base,
     /// The updates: 1,000.
     Updates,
     /// The distinct curators: 64.
     Curators,
-    /// The answers of all updates: 10,000, in format 2 20,000.
+    /// The answers of all updates: 10,000, or 20,000 in format 2.
     Answers,
 }

@@ -1,4 +1,4 @@
-//! Worked rows: inputs with what users are told of them, and sessions with their printed forms.
+//! Worked rows: inputs with the texts of their faults, and sessions with their printed forms.
 
 ghost use Rattle.std.specs.Prelude.{◌≡◌, ◌++◌, codes};
 ghost use Rattle.def_language.specs.Lines.{fault_text, read};
@@ -7,7 +7,7 @@ ghost use Rattle.def_chase.specs.Mappings.{force};
 ghost use Rattle.def_chase.specs.Values.{Unknown};
 ghost use Rattle.def_language.specs.Printing.{printed_text, tuple_text};
 
-/// Lexical faults: the leftmost of a line comes before all else that is wrong with it.
+/// Lexical faults: the leftmost one of a line comes before all other faults of the line.
 pub fn lexical_faults()
     ensures bad_byte { fault_text (read (codes "youtopia 1\nrelation A 1 $\n")) ≡
         codes "session line 2: fault 10: bad byte at 24" }
@@ -64,7 +64,7 @@ pub fn form_faults()
         codes "session line 5: fault 26: something follows end" }
 {}
 
-/// Faults of what a statement says.
+/// Faults that the checks of a statement find.
 pub fn check_faults()
     ensures unknown_relation { fault_text
         (read (codes "youtopia 1\nrelation A 1\nupdate a ann insert B(1)\nend\n")) ≡
@@ -130,7 +130,7 @@ pub fn printed_sessions()
         codes "update b bob replace ?1.2 with \"x\"\nend\n" }
 {}
 
-/// Tuples: one that says that a mapping is in force, and the two spellings of a null.
+/// Printed tuples: one that says that a mapping is in force, and the two spellings of a null.
 pub fn printed_tuples()
     ensures forced { tuple_text [] true (force 12) ≡ codes "*12" }
     ensures inner { tuple_text (record { name = codes "A"; arity = 1 } ∷ []) true
@@ -141,7 +141,7 @@ pub fn printed_tuples()
         codes "A(?3.2)" }
 {}
 
-/// What else can be wanted at the first word of a line that does not fit.
+/// The other parts that can be missing at the first word of a line that does not fit.
 pub fn wanted_faults()
     ensures statement { fault_text (read (codes "youtopia 1\nrelations A 1\n")) ≡
         codes "session line 2: fault 21: expected statement" }

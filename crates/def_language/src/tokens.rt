@@ -28,27 +28,27 @@ pub enum TokenKind {
     Arrow,
 }
 
-/// A token: its kind, and the places of its first byte and of the byte behind its last one.
+/// A token: its kind, and the places of its first byte and of the byte after its last one.
 #[derive(Clone, Copy, Debug, PartialEq, Eq)]
 pub struct Token {
-    /// What it is.
+    /// The kind.
     pub kind: TokenKind,
     /// The place of its first byte.
     pub from: usize,
-    /// The place behind its last byte.
+    /// The place after its last byte.
     pub to: usize,
 }
 
 /// Why a line has no tokens. Each fault carries a place, counted in bytes from 0.
 #[derive(Clone, Copy, Debug, PartialEq, Eq)]
 pub enum LexRefusal {
-    /// A byte that begins no token, or that no backslash of a text may stand before.
+    /// A byte that begins no token, or that may not follow a backslash in a text.
     BadByte(usize),
-    /// A text, opened at the place, whose line ends before its closing quote.
+    /// A text that opens at the place, and whose line ends before its closing quote.
     OpenText(usize),
     /// A number outside `i64` or a null with a part outside `u32`, which begins at the place.
     WideNumber(usize),
-    /// A text of more than 256 bytes, opened at the place.
+    /// A text of more than 256 bytes, which opens at the place.
     LongText(usize),
     /// There was not enough memory.
     Memory,

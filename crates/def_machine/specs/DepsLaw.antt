@@ -6,11 +6,11 @@ use Rattle.def_machine.specs.Cascade.{has_number, readers}
 use Rattle.def_machine.specs.Effects.{Event, Effect, effect}
 use Rattle.def_machine.specs.Histories.{Log, empty_log, after, causes_in}
 
--- Settings of K retries and this kind of dependence.
+-- The settings of K retries and this kind of dependence.
 abbrev pub with_deps : ℕ → Deps → Settings
 with_deps K deps = record { retries = K; deps = deps }
 
--- At what any history leaves, each update that an event restarts with precise dependences it restarts with coarse ones.
+-- After any history, each update that an event restarts with precise dependences is also restarted with coarse ones.
 abbrev pub DepsLaw : Machine → Type 0
 DepsLaw M =
     (s : Settings) (S : Session M) (es : List (Event M)) (l : Log M) (e : Event M) (x y : Effect M) → M.Sound S.base

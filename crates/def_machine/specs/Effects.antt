@@ -1,4 +1,4 @@
--- The effect of each event: where it is allowed, the updates that it leaves and the entry that it writes.
+-- The effect of each event: when it is allowed, the updates after it, and its entry.
 use Rattle.std.specs.Prelude.{ℕ, zero, suc, nat_lt, Bool, true, false, not, ◌&&◌, if◌then◌else◌, List, [], ◌∷◌, ◌++◌, take, drop, length, Option, Some, None, slice_get, option_map, option_and_then}
 use Rattle.def_machine.specs.Machine.{Machine, Outcome, Done, Spent, Refused}
 use Rattle.def_machine.specs.Updates.{Update, Submission, Session, Settings, Deps, trail, below, committed}
@@ -6,7 +6,7 @@ use Rattle.def_machine.specs.Standings.{Standing, standing, is_ready, is_paused,
 use Rattle.def_machine.specs.Cascade.{Cause, readers, conflicts, cascade, restarted}
 use Rattle.def_machine.specs.Steps.{stepped, step_writes}
 
--- What may be asked for: to admit the next update handed in, a step, a delivery, an answer by a person, a withdrawal.
+-- An event: the admission of the next update handed in, a step, a delivery, an answer by a person, or a withdrawal.
 pub data Event (M : Machine) : Type 0 where
   Admits : Event M
   Steps : ℕ → Event M
@@ -14,8 +14,8 @@ pub data Event (M : Machine) : Type 0 where
   Answers : ℕ → M.Choice → Event M
   Withdraws : ℕ → Event M
 
--- What is recorded of a step: the attempt that made it, the standing after it, the writes that it shows, why others were
--- restarted (conflicts, then dependences, each in number order), and how many updates are committed after it.
+-- The entry of a step: the update and the attempt that made it, the standing after it, the writes that it shows, the causes of
+-- restarts (conflicts, then dependences, each in number order), and the number of updates committed after it.
 pub record StepEntry (M : Machine) : Type 0 where
   pub update : ℕ
   pub attempt : ℕ
@@ -24,7 +24,7 @@ pub record StepEntry (M : Machine) : Type 0 where
   pub causes : List (Cause M)
   pub committed : ℕ
 
--- What is recorded of an event: the update's number, then
+-- The entry of an event: the update's number, and then
 pub data Entry (M : Machine) : Type 0 where
   Admitted : ℕ → Entry M
   Stepped : StepEntry M → Entry M
@@ -32,27 +32,28 @@ pub data Entry (M : Machine) : Type 0 where
   Delivered : ℕ → Standing → Entry M
   -- the choice and the standing after it
   Answered : ℕ → M.Choice → Standing → Entry M
-  -- the causes, and how many updates are committed after it
+  -- the causes, and the number of updates committed after it
   Withdrew : ℕ → List (Cause M) → ℕ → Entry M
 
--- What an event leaves.
+-- The effect of an event: the updates after it, and its entry.
 pub record Effect (M : Machine) : Type 0 where
   pub updates : List (Update M)
   pub entry : Entry M
 
--- The attempt ended out of its budget.
+-- The attempt ended because its budget ran out.
 abbrev pub is_spent : Option Outcome → Bool
 is_spent None = false
 is_spent (Some Done) = false
 is_spent (Some Spent) = true
 is_spent (Some Refused) = false
 
--- Why updates above j are restarted where j loses its trail: j is the one first member.
--- D lies below j, and c updates were committed when the event began.
+-- The causes of restarts above update j if j loses its trail: j is the only first member. D is the repository below j, and c
+-- updates were committed when the event began.
 abbrev pub causes_of_loss : (M : Machine) → Deps → ℕ → ℕ → M.Repository → Update M → List (Update M) → List (Cause M)
 causes_of_loss M deps c j D u upper = cascade M deps c [] D (record { number = j; trail = trail M u } ∷ []) (suc j) upper
 
--- Why they are where j wrote: the first members are those in conflict. D lies below the first of them, with the new writes.
+-- The causes of restarts above update j if j wrote: the first members are the updates in conflict. D is the repository below the
+-- first update above j, with the new writes.
 abbrev pub causes_of_writes : (M : Machine) → Deps → ℕ → ℕ → M.Repository → List (Update M) → List (Cause M)
 causes_of_writes M deps c j D upper =
     let first = conflicts M c j D (suc j) upper in first ++ cascade M deps c (readers first) D [] (suc j) upper
@@ -63,7 +64,7 @@ abbrev pub causes_of_step : (M : Machine) → Deps → ℕ → ℕ → M.Reposit
 causes_of_step M deps c j D u v upper =
     if is_spent (M.outcome v.state) then causes_of_loss M deps c j D u upper else causes_of_writes M deps c j (M.apply D (trail M v)) upper
 
--- The list with v in the place of update k + 1, and with those above it that the causes name restarted.
+-- The list with v in place of update k + 1, and with the updates above it that the causes name restarted.
 abbrev pub put : (M : Machine) → List (Update M) → ℕ → Update M → List (Cause M) → List (Update M)
 put M us k v causes = take k us ++ v ∷ restarted M (readers causes) (suc (suc k)) (drop (suc k) us)
 
@@ -81,7 +82,7 @@ with_answers M u answers inbox =
 abbrev pub delivered : (M : Machine) → Update M → Update M
 delivered M u = with_answers M u (u.answers ++ take 1 u.inbox) (drop 1 u.inbox)
 
--- The choice stands where the attempt waits for an answer, and later delivered answers are dropped.
+-- The choice becomes the next answer of the attempt; later answers that were delivered are dropped.
 abbrev pub answered : (M : Machine) → Update M → M.Choice → Update M
 answered M u c = with_answers M u (take (M.taken u.state) u.answers ++ c ∷ []) u.inbox
 
@@ -90,7 +91,7 @@ abbrev pub fits_question : (M : Machine) → Option M.Question → M.Choice → 
 fits_question M None c = false
 fits_question M (Some q) c = M.fits q c
 
--- What each event at update k + 1 leaves, where it is u.
+-- The effect of a step of update k + 1, which is u.
 abbrev pub step_effect : (M : Machine) → Settings → Session M → List (Update M) → ℕ → Update M → Effect M
 step_effect M s S us k u =
     let D = below M S.base us k in
@@ -109,61 +110,60 @@ step_effect M s S us k u =
       });
     }
 
--- A withdrawal: the update loses its trail.
+-- The effect of a withdrawal: the update loses its trail.
 abbrev pub withdraw_effect : (M : Machine) → Settings → Session M → List (Update M) → ℕ → Update M → Effect M
 withdraw_effect M s S us k u =
     let causes = causes_of_loss M s.deps (committed M us) (suc k) (below M S.base us k) u (drop (suc k) us) in
     let vs = put M us k (withdrawn_now M u) causes in
     record { updates = vs; entry = Withdrew (suc k) causes (committed M vs) }
 
--- A delivery: the first recorded answer is delivered.
+-- The effect of a delivery: the first recorded answer is delivered.
 abbrev pub deliver_effect : (M : Machine) → Settings → List (Update M) → ℕ → Update M → Effect M
 deliver_effect M s us k u =
     let v = delivered M u in
     let vs = take k us ++ v ∷ drop (suc k) us in
     record { updates = vs; entry = Delivered (suc k) (standing M s (committed M vs) (suc k) v) }
 
--- An answer by a person.
+-- The effect of an answer by a person.
 abbrev pub answer_effect : (M : Machine) → Settings → List (Update M) → M.Choice → ℕ → Update M → Effect M
 answer_effect M s us c k u =
     let v = answered M u c in
     let vs = take k us ++ v ∷ drop (suc k) us in
     record { updates = vs; entry = Answered (suc k) c (standing M s (committed M vs) (suc k) v) }
 
--- Update n as it is when it is admitted: attempt 0 at its begin, with the recorded answers in the inbox.
+-- Update n when it is admitted: attempt 0 at its beginning, with the recorded answers in the inbox.
 abbrev pub admitted : (M : Machine) → ℕ → Submission M → Update M
 admitted M n x = record { operation = x.operation; attempt = 0; state = M.begin n 0 x.operation; log = []; withdrawn = false; answers = []; inbox = x.answers }
 
--- An admission: the update takes the next number.
+-- The effect of an admission: the update takes the next number.
 abbrev pub admit_effect : (M : Machine) → List (Update M) → Submission M → Effect M
 admit_effect M us x =
     record { updates = us ++ admitted M (suc (length us)) x ∷ []; entry = Admitted (suc (length us)) }
 
--- What is done at the update with this number, where there is one and it is allowed there.
+-- The result of f at the update with this number, if there is one and `allowed` holds there.
 abbrev pub where_allowed : {A B : Type 0} → List A → ℕ → (ℕ → A → Bool) → (ℕ → A → B) → Option B
 where_allowed us zero allowed f = None
 where_allowed us (suc k) allowed f = option_and_then (λ u. if allowed k u then Some (f k u) else None) (slice_get us k)
 
--- It is ready.
+-- The update is ready.
 abbrev pub may_step : (M : Machine) → Settings → List (Update M) → ℕ → Update M → Bool
 may_step M s us k u = is_ready (standing M s (committed M us) (suc k) u)
 
--- It is pending, with an answer in its inbox.
+-- The update is pending, with an answer in its inbox.
 abbrev pub may_deliver : (M : Machine) → Settings → List (Update M) → ℕ → Update M → Bool
 may_deliver M s us k u = is_deliverable M s (committed M us) (suc k) u
 
--- It is paused, and the choice answers its question.
+-- The update is paused, and the choice answers its question.
 abbrev pub may_answer : (M : Machine) → Settings → List (Update M) → M.Choice → ℕ → Update M → Bool
 may_answer M s us c k u = is_paused (standing M s (committed M us) (suc k) u) && fits_question M (M.question u.state) c
 
--- It is neither committed nor withdrawn.
+-- The update is neither committed nor withdrawn.
 abbrev pub may_withdraw : (M : Machine) → List (Update M) → ℕ → Update M → Bool
 may_withdraw M us k u = nat_lt (committed M us) (suc k) && not u.withdrawn
 
--- The effect of an event at these updates, where it is allowed.
--- An update may step where it is ready, be delivered to where it is pending with an answer in its inbox, be answered where
--- it is paused and the choice fits, and be withdrawn where it is neither committed nor withdrawn. An update is admitted
--- where one more was handed in.
+-- The effect of an event at these updates, if it is allowed. An update may step if it is ready, get a delivery if it is pending
+-- with an answer in its inbox, be answered if it is paused and the choice fits, and be withdrawn if it is neither committed nor
+-- withdrawn. An update is admitted if one more was handed in.
 abbrev pub effect : (M : Machine) → Settings → Session M → List (Update M) → Event M → Option (Effect M)
 effect M s S us Admits = option_map (admit_effect M us) (slice_get S.submissions (length us))
 effect M s S us (Steps i) = where_allowed us i (may_step M s us) (step_effect M s S us)

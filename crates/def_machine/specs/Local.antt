@@ -1,4 +1,4 @@
--- What an event doesn't touch: the updates below the one that it acts on, and what is committed.
+-- What an event leaves unchanged: the updates below the one that it acts on, and the committed ones.
 use Rattle.std.specs.Prelude.{◌≡◌, ℕ, suc, ◌<◌, ◌≤◌, List, length, Some, slice_get}
 use Rattle.def_machine.specs.Machine.{Machine}
 use Rattle.def_machine.specs.Updates.{Update, Session, Settings, below, committed}
@@ -12,15 +12,15 @@ acts_on us (Delivers i) = i
 acts_on us (Answers i c) = i
 acts_on us (Withdraws i) = i
 
--- With the event at update j the updates below it stay as they were, and so does what lies below each of them and below it.
--- Update j wasn't committed, and what was committed stays so.
+-- With an event at update j, the updates below j stay unchanged, and so does the repository below each of them and below j.
+-- Update j was not committed, and committed updates stay so.
 pub record IsLocal (M : Machine) (D : M.Repository) (j : ℕ) (us vs : List (Update M)) : Type 0 where
   pub lower : (k : ℕ) → suc k < j → slice_get vs k ≡ slice_get us k
   pub below : (k : ℕ) → k < j → below M D vs k ≡ below M D us k
   pub uncommitted : committed M us < j
   pub grows : committed M us ≤ committed M vs
 
--- Of every event where it is allowed.
+-- This holds for every allowed event.
 abbrev pub LocalLaw : Machine → Type 0
 LocalLaw M =
     (s : Settings) (S : Session M) (us : List (Update M)) (e : Event M) (x : Effect M) → effect M s S us e ≡ Some x

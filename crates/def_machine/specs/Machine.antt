@@ -1,59 +1,58 @@
--- A machine whose updates work in steps that ask queries of a repository, and the laws that it has to meet.
+-- A machine whose updates make steps that ask queries of a repository, and the laws that it must meet.
 use Rattle.std.specs.Prelude.{◌≡◌, ℕ, suc, ◌≤◌, Bool, true, false, if◌then◌else◌, List, [], ◌++◌, Option, None, is_some}
 use Rattle.std.specs.List.{AllByRecursion}
 use Rattle.def_machine.specs.Trees.{Tree}
 
--- How an attempt ends: with its work done, out of its budget of steps, or refused for what it names.
+-- How an attempt ends: its work is done, its budget of steps has run out, or it is refused for something that it names.
 pub data Outcome : Type 0 where
   Done : Outcome
   Spent : Outcome
   Refused : Outcome
 
--- What a machine is. A state is that of one attempt of one update; it holds all that the attempt knows, the writes that
--- it made among it.
+-- A machine. A state is the state of one attempt at one update; it holds everything that the attempt knows, with the writes that
+-- it has made.
 pub record Machine : Type 1 where
   pub Query : Type 0
   pub Reply : Type 0
   pub Write : Type 0
-  -- what a person is asked, and what a person answers
+  -- the questions to people, and their answers
   pub Question : Type 0
   pub Choice : Type 0
-  -- what an update was handed in to do
+  -- the operations with which updates are handed in
   pub Operation : Type 0
   pub Repository : Type 0
   pub State : Type 0
-  -- what a step comes to
+  -- the result of a step
   pub Move : Type 0
   -- whether two replies are the same
   pub same : Reply → Reply → Bool
   -- the repository after the writes
   pub apply : Repository → List Write → Repository
-  -- the reply to a query of an attempt at the operation that made these writes over the repository
+  -- the reply over the repository to a query of an attempt at the operation that has made these writes
   pub value : Operation → Query → Repository → List Write → Reply
-  -- the state in which an attempt begins: the update's number, the attempt's number, the operation
+  -- the state in which an attempt begins, by the update's number, the attempt's number and the operation
   pub begin : ℕ → ℕ → Operation → State
-  -- the question whose answer the state waits for, if it does
+  -- the question at which the state waits, if it does
   pub question : State → Option Question
   -- whether a choice answers a question
   pub fits : Question → Choice → Bool
-  -- the next step of a state that hasn't ended: its queries and the move. A state that waits is given a choice that fits;
-  -- no other state is given one
+  -- the next step of a state that has not ended: its queries and the move. Only a state that waits gets a choice, which must fit
   pub step : State → Option Choice → Tree Query Reply Move
   pub moved : State → Move → State
   pub writes : Move → List Write
   -- the writes that the attempt made so far, in order
   pub own : State → List Write
-  -- how it ended, if it did
+  -- how the attempt ended, if it did
   pub outcome : State → Option Outcome
-  -- the numbers of answers that it took and of steps that it made
+  -- the numbers of answers that the attempt has taken and of steps that it has made
   pub taken : State → ℕ
   pub count : State → ℕ
-  -- how many steps an attempt may make
+  -- the number of steps that an attempt may make
   pub budget : ℕ
   -- the relations, by number: those that a query mentions, and the one that a write is of
   pub mentions : Query → ℕ → Bool
   pub touches : Write → ℕ
-  -- what each repository is, such as a list in order
+  -- what every repository must satisfy, such as being a list in order
   pub Sound : Repository → Type 0
   -- the repositories agree on each relation that passes the test
   pub Alike : (ℕ → Bool) → Repository → Repository → Type 0
@@ -62,7 +61,7 @@ pub record Machine : Type 1 where
 abbrev pub Avoids : (M : Machine) → (ℕ → Bool) → List M.Write → Type 0
 Avoids M p ws = AllByRecursion (λ w. p (M.touches w) ≡ false) ws
 
--- The laws of a machine. The last four are those of relations: a query's reply depends on the relations that it mentions alone.
+-- The laws of a machine. The last four are about relations: a query's reply depends only on the relations that it mentions.
 pub record Laws (M : Machine) : Type 0 where
   pub same_is : (a b : M.Reply) → M.same a b ≡ true → a ≡ b
   pub same_self : (a : M.Reply) → M.same a a ≡ true
@@ -75,7 +74,7 @@ pub record Laws (M : Machine) : Type 0 where
   pub moved_taken : (P : M.State) (m : M.Move)
       → M.taken (M.moved P m) ≡ (if is_some (M.question P) then suc (M.taken P) else M.taken P)
   pub moved_count : (P : M.State) (m : M.Move) → M.count (M.moved P m) ≡ suc (M.count P)
-  -- with all its steps made an attempt has ended
+  -- an attempt that has made all its steps has ended
   pub some_budget : 1 ≤ M.budget
   pub bounded : (P : M.State) (m : M.Move) → suc (M.count P) ≤ M.budget → M.outcome (M.moved P m) ≡ None
       → suc (M.count (M.moved P m)) ≤ M.budget

@@ -1,10 +1,10 @@
--- Whether a logged read still has its value, and the first one that doesn't.
+-- Whether a logged read still has its value, and the first one that does not.
 use Rattle.std.specs.Prelude.{ℕ, suc, Bool, not, if◌then◌else◌, List, [], ◌∷◌, take, Option, Some, None, option_map}
 use Rattle.std.specs.List.{list_all}
 use Rattle.def_machine.specs.Machine.{Machine}
 use Rattle.def_machine.specs.Updates.{Read, Update}
 
--- The value that the read has over D now, by an attempt at the operation that made these writes.
+-- The value that the read has over D now, for an attempt at the operation that has made these writes.
 abbrev pub value_now : (M : Machine) → M.Operation → M.Repository → List M.Write → Read M → M.Reply
 value_now M op D own r = M.value op r.query D (take r.own own)
 
@@ -12,7 +12,7 @@ value_now M op D own r = M.value op r.query D (take r.own own)
 abbrev pub is_valid : (M : Machine) → M.Operation → M.Repository → List M.Write → Read M → Bool
 is_valid M op D own r = M.same r.answer (value_now M op D own r)
 
--- All logged reads of the update are valid where D lies below it.
+-- All logged reads of the update are valid, if D is the repository below it.
 abbrev pub all_valid : (M : Machine) → M.Repository → Update M → Bool
 all_valid M D u = list_all (is_valid M u.operation D (M.own u.state)) u.log
 
@@ -27,7 +27,7 @@ pub record Changed (M : Machine) : Type 0 where
   pub old : M.Reply
   pub new : M.Reply
 
--- The first logged read of the update that isn't valid where D lies below it.
+-- The first logged read of the update that is not valid, if D is the repository below it.
 abbrev pub changed_read : (M : Machine) → M.Repository → Update M → Option (Changed M)
 changed_read M D u =
     option_map (λ t. record { read = t.0; old = t.1.answer; new = value_now M u.operation D (M.own u.state) t.1 })

@@ -1,4 +1,4 @@
--- What a history keeps of what was handed in.
+-- How the updates of a history agree with those that were handed in.
 use Rattle.std.specs.Prelude.{◌≡◌, ℕ, Bool, true, false, List, ◌++◌, map, take, length, Some, slice_get}
 use Rattle.std.specs.List.{list_all}
 use Rattle.def_machine.specs.Machine.{Machine}
@@ -7,7 +7,7 @@ use Rattle.def_machine.specs.Effects.{Event, Admits, Steps, Delivers, Answers, W
 use Rattle.def_machine.specs.Histories.{Log, empty_log, after}
 use Rattle.def_machine.specs.Serial.{Turn, all_turns, session_turns}
 
--- Neither an answer given live nor a withdrawal.
+-- The event is recorded: neither a live answer nor a withdrawal.
 abbrev pub is_recorded : {M : Machine} → Event M → Bool
 is_recorded Admits = true
 is_recorded (Steps i) = true
@@ -15,21 +15,21 @@ is_recorded (Delivers i) = true
 is_recorded (Answers i c) = false
 is_recorded (Withdraws i) = false
 
--- The turn by attempt 0.
+-- The turn, by attempt 0.
 abbrev pub by_first_attempt : {M : Machine} → Turn M → Turn M
 by_first_attempt t = record { number = t.number; attempt = 0; operation = t.operation; answers = t.answers }
 
--- What the updates that the events left have of what was handed in.
+-- The updates after the events agree with those that were handed in.
 pub record IsRecorded (M : Machine) (S : Session M) (es : List (Event M)) (us : List (Update M)) : Type 0 where
-  -- each update does what it was handed in to do
+  -- each update does the operation with which it was handed in
   pub operations : (k : ℕ) (u : Update M) → slice_get us k ≡ Some u
       → (x : Submission M) × (slice_get S.submissions k ≡ Some x) × (u.operation ≡ x.operation)
-  -- without live answers and withdrawals the turns are those of the session, but for their attempts
+  -- without live answers and withdrawals, the turns are those of the session, up to their attempts
   pub turns : list_all is_recorded es ≡ true
       → map by_first_attempt (all_turns M 1 us) ≡ session_turns M 1 (take (length us) S.submissions)
   pub present : list_all is_recorded es ≡ true → (k : ℕ) (u : Update M) → slice_get us k ≡ Some u → u.withdrawn ≡ false
 
--- After every history.
+-- This holds after every history.
 abbrev pub RecordedLaw : Machine → Type 0
 RecordedLaw M =
     (s : Settings) (S : Session M) (es : List (Event M)) (l : Log M) → after M s S (empty_log M) es ≡ Some l
@@ -39,7 +39,7 @@ RecordedLaw M =
 abbrev pub with_more : {M : Machine} → Session M → List (Submission M) → Session M
 with_more S xs = record { base = S.base; submissions = S.submissions ++ xs }
 
--- A history stays one when further updates are handed in.
+-- A history stays a history if further updates are handed in.
 abbrev pub LongerLaw : Machine → Type 0
 LongerLaw M =
     (s : Settings) (S : Session M) (xs : List (Submission M)) (l m : Log M) (es : List (Event M))

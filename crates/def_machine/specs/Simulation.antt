@@ -1,4 +1,5 @@
--- Two machines whose serial runs go the same way, as with other attempt numbers or another way to answer queries.
+-- Two machines whose serial runs correspond step by step, such as runs with other attempt numbers, or with another way to answer
+-- queries.
 use Rattle.std.specs.Prelude.{◌≡◌, ℕ, suc, ◌≤◌, true, List, [], ◌∷◌, Option, Some, None, is_some}
 use Rattle.def_machine.specs.Machine.{Machine}
 use Rattle.def_machine.specs.Updates.{shown}
@@ -6,8 +7,8 @@ use Rattle.def_machine.specs.Standings.{lack}
 use Rattle.def_machine.specs.Steps.{next_state}
 use Rattle.def_machine.specs.Serial.{Turn, Finish, Stop, Result}
 
--- Relations of turns, of repositories below a number, and of states that two turns come to over two repositories; a step of
--- related states leads to related states, and related ends leave related repositories.
+-- Relations of turns, of repositories below a number, and of states that two turns reach over two repositories. A step of related
+-- states leads to related states, and related ends leave related repositories.
 pub record Simulation (M K : Machine) : Type 1 where
   pub Turns : Turn M → Turn K → Type 0
   pub Repositories : ℕ → M.Repository → K.Repository → Type 0
@@ -28,14 +29,14 @@ pub record Simulation (M K : Machine) : Type 1 where
       → Repositories (suc t.number) (M.apply D (shown M P)) (K.apply E (shown K Q))
   pub later : (n m : ℕ) (D : M.Repository) (E : K.Repository) → n ≤ m → Repositories n D E → Repositories m D E
 
--- Turns that stand beside one another, in order of their numbers from n on.
+-- Related turns, pair by pair, in the order of their numbers from n on.
 abbrev pub AreTurns : {M K : Machine} → Simulation M K → ℕ → List (Turn M) → List (Turn K) → Type 0
 AreTurns R n [] [] = Unit {0}
 AreTurns R n (t ∷ ts) (s ∷ ss) = (n ≤ t.number) × R.Turns t s × AreTurns R (suc t.number) ts ss
 AreTurns R n [] (s ∷ ss) = ⊥
 AreTurns R n (t ∷ ts) [] = ⊥
 
--- States that related turns come to over related repositories.
+-- Related states, which related turns reach over related repositories.
 pub record AreStates {M K : Machine} (R : Simulation M K) (P : M.State) (Q : K.State) : Type 0 where
   pub turn : Turn M
   pub other : Turn K

@@ -1,16 +1,16 @@
--- A small machine: an update writes an item unless it finds another one, and may then ask a person what else to write.
+-- A small machine: an update writes an item unless it finds another one, and may then ask a person for one more item to write.
 use Rattle.std.specs.Prelude.{◌≡◌, ℕ, suc, ◌==◌, nat_lt, Bool, true, false, not, if◌then◌else◌, List, [], ◌∷◌, ◌++◌, filter, Option, Some, None, is_some}
 use Rattle.def_machine.specs.Trees.{Tree, Leaf, Node}
 use Rattle.def_machine.specs.Machine.{Machine, Outcome, Done, Spent}
 use Rattle.def_machine.specs.Standings.{is_nil}
 
--- Looks for one item and writes the other where the first is missing; then asks, or is done.
+-- A task: it looks for one item and writes the other if the first is missing; then it asks, or is done.
 pub record Task : Type 0 where
   pub looks_for : ℕ
   pub writes : ℕ
   pub asks : Bool
 
--- An attempt at the task: its writes, its steps, the answers taken, whether it is done.
+-- An attempt at the task: its writes, the numbers of steps made and answers taken, and whether it is done.
 pub record Small : Type 0 where
   pub task : Task
   pub own : List ℕ
@@ -18,24 +18,24 @@ pub record Small : Type 0 where
   pub taken : ℕ
   pub done : Bool
 
--- What a step wrote, and whether the task is done.
+-- The move of a step: its writes, and whether the task is done.
 pub record SmallMove : Type 0 where
   pub wrote : List ℕ
   pub done : Bool
 
--- There is one question, and any item but 0 answers it.
+-- The only question, which any item except 0 answers.
 pub data What : Type 0 where
   What_else : What
 
--- Done, or out of its budget of B steps.
+-- The outcome: done, or spent after a budget of B steps.
 abbrev pub small_outcome : ℕ → Small → Option Outcome
 small_outcome B P = if P.done then Some Done else (if nat_lt P.count B then None else Some Spent)
 
--- After its first step it waits for an answer.
+-- After its first step an attempt waits for an answer.
 abbrev pub small_question : Small → Option What
 small_question P = if P.count == 0 then None else Some What_else
 
--- Without an answer it looks; with one it writes what the answer says.
+-- The step: without an answer it looks for its item; with an answer it writes the item of the answer.
 abbrev pub small_step : Task → Option ℕ → Tree ℕ Bool SmallMove
 small_step t None = Node t.looks_for (λ found. Leaf (record { wrote = if found then [] else t.writes ∷ []; done = not t.asks }))
 small_step t (Some c) = Leaf (record { wrote = c ∷ []; done = true })

@@ -8,7 +8,7 @@ use Rattle.def_machine.specs.Effects.{Event, Admits, Steps, Delivers, Withdraws,
 use Rattle.def_machine.specs.Histories.{Log, empty_log, after}
 use Rattle.def_machine.specs.Small.{small}
 
--- An update that looks for one item and writes another, and may ask; with the answers recorded for it.
+-- An update that looks for one item and writes another, and may ask, with the answers recorded for it.
 abbrev pub looks : (B : ℕ) → ℕ → ℕ → Bool → List ℕ → Submission (small B)
 looks B x y asks answers = record { operation = record { looks_for = x; writes = y; asks = asks }; answers = answers }
 
@@ -55,7 +55,7 @@ held_entries = conflict_entries ++ Delivered 1 Ready ∷ a_step 2 1 0 (Ended Don
 abbrev pub five_updates : Session (small 2)
 five_updates = session_of 2 (5 ∷ []) (looks 2 9 1 false [] ∷ looks 2 1 2 true (5 ∷ []) ∷ looks 2 2 3 true (7 ∷ []) ∷ looks 2 5 4 false [] ∷ looks 2 7 8 false [] ∷ [])
 
--- All but update 1 go to their ends.
+-- All updates except update 1 run to their ends.
 abbrev pub before_conflict : List (Event (small 2))
 before_conflict =
     Admits ∷ Admits ∷ Admits ∷ Admits ∷ Admits ∷ Steps 2 ∷ Delivers 2 ∷ Steps 2 ∷ Steps 3 ∷ Delivers 3 ∷ Steps 3 ∷ Steps 4 ∷ Steps 5 ∷ []
@@ -68,8 +68,8 @@ entries_before =
     ∷ a_step 2 3 0 (Paused Missing) [] [] 0 ∷ Delivered 3 Ready ∷ a_step 2 3 0 (Ended Done) (7 ∷ []) [] 0
     ∷ a_step 2 4 0 (Ended Done) [] [] 0 ∷ a_step 2 5 0 (Ended Done) [] [] 0 ∷ []
 
--- Update 3 found 2, which update 2 wrote, and update 5 found 7, which update 3 wrote. Update 4 found 5, which is there
--- without update 2 too: it depends by what its read mentions, but not by its value.
+-- Update 3 found 2, which update 2 wrote, and update 5 found 7, which update 3 wrote. Update 4 found 5, which is also there
+-- without update 2: its read depends by the relation that it mentions, but not by its value.
 abbrev pub precise_causes : List (Cause (small 2))
 precise_causes = Conflict 2 1 1 false true ∷ Depends 3 1 2 ∷ Depends 5 1 3 ∷ []
 

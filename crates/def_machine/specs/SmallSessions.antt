@@ -1,4 +1,4 @@
--- The small machine on a session: what a quiet history of recorded events leaves is its serial result, by first attempts.
+-- The small machine on a session: a quiet history of recorded events has its serial result, by first attempts.
 use Rattle.std.specs.Prelude.{◌≡◌, ℕ, ◌≤◌, true, List, length, Some}
 use Rattle.std.specs.List.{list_all}
 use Rattle.def_machine.specs.Updates.{Session, Settings, below, committed}
@@ -9,7 +9,7 @@ use Rattle.def_machine.specs.Serial.{Result, serial, committed_finishes, first_s
 use Rattle.def_machine.specs.Recorded.{is_recorded}
 use Rattle.def_machine.specs.Small.{small}
 
--- What the updates of a history give as a result.
+-- The result of the updates of a history.
 abbrev pub small_result : (B : ℕ) → Session (small B) → Log (small B) → Result (small B)
 small_result B S l =
     record {
@@ -18,7 +18,7 @@ small_result B S l =
       repository = below (small B) S.base l.updates (committed (small B) l.updates);
     }
 
--- Whatever the order of the events.
+-- This holds whatever the order of the events.
 abbrev pub SmallSessions : Type 0
 SmallSessions =
     (B : ℕ) (s : Settings) (S : Session (small B)) (es : List (Event (small B))) (l : Log (small B)) → 1 ≤ B

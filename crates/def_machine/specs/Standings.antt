@@ -3,14 +3,13 @@ use Rattle.std.specs.Prelude.{ℕ, suc, nat_lt, Bool, true, false, not, ◌&&◌
 use Rattle.def_machine.specs.Machine.{Machine, Outcome}
 use Rattle.def_machine.specs.Updates.{Update, Settings, committed}
 
--- Why an attempt that waits for an answer can't go on: no next answer is there, or the next one doesn't fit the question.
+-- Why an attempt that waits for an answer cannot go on: there is no next answer, or the next one does not fit the question.
 pub data Lack : Type 0 where
   Missing : Lack
   Misfit : Lack
 
--- An update whose attempt has not ended is held until the lower ones are committed (with the lowest number that isn't),
--- or paused for want of an answer, or ready to step.
--- `Paused Missing` is what is called pending.
+-- The standing of an update. If its attempt has not ended, it is held until the lower updates are committed (with the lowest
+-- number that is not), or paused because it lacks an answer, or ready to step. An update with `Paused Missing` is called pending.
 pub data Standing : Type 0 where
   Ready : Standing
   Held : ℕ → Standing
@@ -18,25 +17,25 @@ pub data Standing : Type 0 where
   Ended : Outcome → Standing
   Withdrawn : Standing
 
--- The next answer of the list, where the state waits for one.
+-- The next answer of the list, if the state waits for one.
 abbrev pub next_answer : (M : Machine) → List M.Choice → M.State → Option M.Choice
 next_answer M answers P = if is_some (M.question P) then slice_get answers (M.taken P) else None
 
--- What lacks for the question with this next answer, if there is one.
+-- The lack at this question, with this next answer if there is one.
 abbrev pub unless_fits : (M : Machine) → M.Question → Option M.Choice → Option Lack
 unless_fits M q None = Some Missing
 unless_fits M q (Some c) = if M.fits q c then None else Some Misfit
 
--- What lacks for the question that the state waits with, if it does.
+-- The lack at the question at which the state waits, if it waits at one.
 abbrev pub lack_for : (M : Machine) → List M.Choice → M.State → Option M.Question → Option Lack
 lack_for M answers P None = None
 lack_for M answers P (Some q) = unless_fits M q (slice_get answers (M.taken P))
 
--- What a state lacks to go on with these answers.
+-- The lack of a state with these answers; None if it can go on.
 abbrev pub lack : (M : Machine) → List M.Choice → M.State → Option Lack
 lack M answers P = lack_for M answers P (M.question P)
 
--- Ready, unless something lacks.
+-- Ready, unless an answer is lacking.
 abbrev pub unless_paused : Option Lack → Standing
 unless_paused None = Ready
 unless_paused (Some l) = Paused l
@@ -46,11 +45,12 @@ abbrev pub unless_ended : Option Outcome → Standing → Standing
 unless_ended None s = s
 unless_ended (Some o) s = Ended o
 
--- Too often restarted to go on beside lower updates, where c updates are committed and this one has number n.
+-- The update was restarted too often to go on while lower updates are not committed; c updates are committed, and this one has
+-- number n.
 abbrev pub is_held : (M : Machine) → Settings → ℕ → ℕ → Update M → Bool
 is_held M s c n u = nat_lt s.retries u.attempt && nat_lt (suc c) n
 
--- The standing of update n, where c updates are committed: the first that holds.
+-- The standing of update n if c updates are committed. The first case that holds counts: withdrawn, ended, held, paused, ready.
 abbrev pub standing : (M : Machine) → Settings → ℕ → ℕ → Update M → Standing
 standing M s c n u =
     if u.withdrawn then Withdrawn
@@ -64,7 +64,7 @@ is_ready (Paused l) = false
 is_ready (Ended o) = false
 is_ready Withdrawn = false
 
--- It is paused without a next answer.
+-- The standing is paused without a next answer.
 abbrev pub is_pending : Standing → Bool
 is_pending Ready = false
 is_pending (Held c) = false
@@ -73,7 +73,7 @@ is_pending (Paused Misfit) = false
 is_pending (Ended o) = false
 is_pending Withdrawn = false
 
--- It is paused, with or without a next answer.
+-- The standing is paused, with or without a next answer.
 abbrev pub is_paused : Standing → Bool
 is_paused Ready = false
 is_paused (Held c) = false
@@ -86,11 +86,11 @@ abbrev pub is_nil : {A : Type 0} → List A → Bool
 is_nil [] = true
 is_nil (x ∷ xs) = false
 
--- Pending, with an answer in the inbox.
+-- The update is pending, with an answer in the inbox.
 abbrev pub is_deliverable : (M : Machine) → Settings → ℕ → ℕ → Update M → Bool
 is_deliverable M s c n u = is_pending (standing M s c n u) && not (is_nil u.inbox)
 
--- The question that is put to people for update n: there is one exactly where the update is paused.
+-- The question of update n that people see; there is one exactly if the update is paused.
 abbrev pub question_of : (M : Machine) → Settings → ℕ → ℕ → Update M → Option M.Question
 question_of M s c n u = if is_paused (standing M s c n u) then M.question u.state else None
 
@@ -103,10 +103,10 @@ lowest_that p n (u ∷ us) = if p n u then Some n else lowest_that p (suc n) us
 abbrev pub lowest_ready : (M : Machine) → Settings → List (Update M) → Option ℕ
 lowest_ready M s us = lowest_that (λ n u. is_ready (standing M s (committed M us) n u)) 1 us
 
--- The least number of a deliverable one.
+-- The least number of a deliverable update.
 abbrev pub lowest_deliverable : (M : Machine) → Settings → List (Update M) → Option ℕ
 lowest_deliverable M s us = lowest_that (λ n u. is_deliverable M s (committed M us) n u) 1 us
 
--- Nothing is ready, and nothing is deliverable.
+-- No update is ready, and none is deliverable.
 abbrev pub is_quiet : (M : Machine) → Settings → List (Update M) → Bool
 is_quiet M s us = is_none (lowest_ready M s us) && is_none (lowest_deliverable M s us)

@@ -1,4 +1,4 @@
-//! Want of memory: the refusal that every call which takes memory shares.
+//! Want of memory: the error that all calls which take memory share.
 #![tactic(auto)]
 
 use std::alloc::{AllocError, AllocFailed};
@@ -6,8 +6,8 @@ use thiserror::Error;
 
 /// Want of memory: the allocator had no room for what the call needed.
 ///
-/// Any call that takes memory may answer it, and no contract says when. The call's contract says what
-/// stands after it; in general the object is as it was before the call.
+/// Any call that takes memory may return it, and no contract says when. The call's contract says what holds after it; usually the
+/// object is as it was before the call.
 #[derive(Clone, Copy, Debug, PartialEq, Eq, Error)]
 #[error("out of memory")]
 pub struct Memory;
@@ -24,7 +24,7 @@ impl<T: Drop> From<AllocFailed<T>> for Memory {
     }
 }
 
-/// A call that hands its argument back beside `Memory`, where the caller has no more use for it.
+/// The error of a call that hands its argument back with `Memory`, if the caller has no more use for the argument.
 impl<T: Drop> From<(T, Memory)> for Memory {
     fn from(_refused: (T, Memory)) -> Memory {
         Memory

@@ -18,7 +18,7 @@ abbrev pub step_next : (scope : Operation → Scope) (ms : List Rule) (B : ℕ) 
 step_next scope ms B op D answers P =
     step_by ms D P (next_answer (chase scope ms B) answers P) (next_move (chase scope ms B) op D answers P)
 
--- None where something is lacking.
+-- The steps; none if an answer is lacking.
 abbrev pub unless_lacking : Option Lack → List Step → List Step
 unless_lacking None ss = ss
 unless_lacking (Some l) ss = []
@@ -35,18 +35,18 @@ steps_from scope ms B op D answers (suc k) P =
 abbrev pub whole_steps : (scope : Operation → Scope) (ms : List Rule) (B : ℕ) → List Fact → Turn (chase scope ms B) → List Step
 whole_steps scope ms B D t = steps_from scope ms B t.operation D t.answers B (begun t.number t.attempt t.operation)
 
--- The attempt has ended with its work done.
+-- The attempt has ended, and is done.
 abbrev pub is_done_with : Option Outcome → Bool
 is_done_with None = false
 is_done_with (Some Done) = true
 is_done_with (Some Spent) = false
 is_done_with (Some (Refused n)) = false
 
--- The steps of an update that is done; one that is spent or refused leaves none of its writes.
+-- The steps of an update that is done; none for one that is spent or refused, since none of its writes is left.
 abbrev pub if_done : Attempt → List Step → List Step
 if_done P ss = if is_done_with (outcome_in P.phase) then ss else []
 
--- After the turn of an update over D with these steps: on to the next turns, or the stop.
+-- The steps from the turn of an update over D on, given its own steps: these and those of the next turns, up to a stop.
 abbrev pub steps_after : (scope : Operation → Scope) (ms : List Rule) (B : ℕ) → (List Fact → List Step) → List Fact → List Step → Rest (chase scope ms B) → List Step
 steps_after scope ms B rest D ss (Ends P) = if_done P ss ++ rest (apply D (shown (chase scope ms B) P))
 steps_after scope ms B rest D ss (Stops P l) = []

@@ -1,4 +1,4 @@
--- Worked rows: explanations of tuples that small sessions leave, as an independent implementation tells them.
+-- Worked rows: explanations of tuples that small sessions leave, as an independent implementation gives them.
 use Rattle.std.specs.Prelude.{◌≡◌, ℕ, List, [], ◌∷◌, Option, Some, None, codes}
 use Rattle.def_chase.specs.Values.{Datum, Text, Fact}
 use Rattle.def_chase.specs.Mappings.{Var, Rule}
@@ -53,7 +53,7 @@ review d = fact 4 (abc ∷ falls ∷ d ∷ [])
 abbrev pub airport : Datum → Datum → Fact
 airport a l = fact 1 (a ∷ l ∷ nyc ∷ [])
 
--- What is told of them.
+-- The explanations of these tuples.
 pub record Explained : Type 0 where
   pub capital_generated : of_capitals (capital washington) ≡ Some (reason (capital washington) (Generated 1 5 0 (city ∷ [])) ∷ reason city (Inserted 1 1) ∷ [])
   pub capital_absent : of_capitals (capital (Text (codes "X"))) ≡ None

@@ -13,11 +13,12 @@ use Rattle.def_provenance.specs.Courses.{serial_steps}
 use Rattle.def_provenance.specs.Reasons.{Reason, premises, reason_at, rooted, explained}
 use Rattle.def_provenance.specs.Notes.{notes_of, told_by}
 
--- What is noted of steps tells the reasons for tuples after these steps.
+-- The notes of steps determine the reasons for tuples after these steps.
 abbrev pub NotesTell : Type 0
 NotesTell = (ss : List Step) (sought : List Fact) → told_by (reverse (notes_of ss)) sought ≡ explained (reverse ss) sought
 
--- In a timely session over a base where the mappings in force hold, the steps are the same whether all violations are looked at or those that the update caused, if no mapping has a null among its constants.
+-- In a timely session over a base in which the mappings in force hold, the steps are the same whether all violations count or
+-- only those that the update caused, if no mapping has a null among its constants.
 abbrev pub StepsAgree : Type 0
 StepsAgree =
     (ms : List Rule) (B : ℕ) (D : List Fact) (rs : List Request) → 1 ≤ B → HaveNoNulls ms → IsTimely ms D rs → AllHold ms D
@@ -27,17 +28,20 @@ StepsAgree =
 abbrev pub is_told : List Reason → Fact → Bool
 is_told rs t = list_any (λ (r : Reason). same_fact t r.tuple) rs
 
--- Each reason rests on tuples whose reasons stand behind it. So none rests on itself, and what rests on nothing ends each walk: tuples of the base, and insertions.
+-- Each reason rests on tuples whose reasons stand after it. So none rests on itself, and each walk ends at a reason that rests on
+-- nothing: a tuple of the base, or an insertion.
 abbrev pub AreGrounded : List Reason → Type 0
 AreGrounded [] = Unit {0}
 AreGrounded (r ∷ rs) = AllByRecursion (λ t. is_told rs t ≡ true) (premises r.how) × AreGrounded rs
 
--- The reason for a tuple at its origin: the last of these steps that puts it, where the last one stands first. A tuple that none puts is of the base.
+-- The reason for a tuple at its origin, which is the last of these steps that puts it. The steps are listed last first. A tuple
+-- that no step puts is of the base.
 abbrev pub origin : List Step → Fact → Reason
 origin [] t = rooted t
 origin (s ∷ earlier) t = if puts s t then reason_at s t else origin earlier t
 
--- Whatever the steps were, the reasons for tuples sought after them are grounded, and every tuple sought is told first by its origin.
+-- Whatever the steps were, the reasons for the tuples sought after them are grounded, and the first reason for each tuple sought
+-- is the one at its origin.
 pub record ReasonsAreGrounded (ss : List Step) (sought : List Fact) : Type 0 where
   pub grounded : AreGrounded (explained ss sought)
   pub told : (t : Fact) → has sought t ≡ true → is_told (explained ss sought) t ≡ true

@@ -1,4 +1,4 @@
--- What is noted of the steps of a run: those that put a tuple, with what they put.
+-- The notes of the steps of a run: of each step that puts a tuple, with the tuples that it puts.
 use Rattle.std.specs.Prelude.{ℕ, List, [], ◌∷◌, ◌++◌, map, filter}
 use Rattle.std.specs.List.{flat_map}
 use Rattle.def_chase.specs.Values.{Fact}
@@ -6,7 +6,7 @@ use Rattle.def_chase.specs.Repository.{has}
 use Rattle.def_provenance.specs.Puts.{Way, Step, puts, inserted, deleted}
 use Rattle.def_provenance.specs.Reasons.{Reason, how_by, rooted, sought_before}
 
--- A step by the tuples that it put and those that it deleted.
+-- A note: a step, with the tuples that it put and those that it deleted.
 pub record Noted : Type 0 where
   pub update : ℕ
   pub step : ℕ
@@ -29,15 +29,15 @@ abbrev pub unless_none : List Fact → Noted → List Noted
 unless_none [] n = []
 unless_none (t ∷ ts) n = n ∷ []
 
--- What is noted of a step.
+-- The note of a step; none if the step puts no tuple.
 abbrev pub noted : Step → List Noted
 noted s = unless_none (note s).puts (note s)
 
--- What is noted of steps, in their order.
+-- The notes of steps, in their order.
 abbrev pub notes_of : List Step → List Noted
 notes_of ss = flat_map noted ss
 
--- The reason for a tuple at the step that put it, by its note.
+-- The reason for a tuple at the step that put it, by the step's note.
 abbrev pub reason_by : Noted → Fact → Reason
 reason_by n t = record { tuple = t; how = how_by n.update n.step n.deleted t n.way }
 

@@ -11,7 +11,9 @@ use Rattle.def_steps.specs.Rewriting.{replacing, standing_for}
 use Rattle.def_steps.specs.Questions.{candidate}
 use Rattle.def_steps.specs.Steps.{Move}
 
--- How a step comes to a tuple that it puts: as it was handed in; as the right side of the mapping of this number, for this image of the left side; or from a tuple that stood there, by this substitution. A step that puts none is said to go the first way.
+-- The way of a step to a tuple that it puts. The tuple was handed in; or it is of the right side of the mapping of this number,
+-- for this image of the left side; or it comes from a tuple that was there, by this substitution. A step that puts no tuple has
+-- the first way.
 pub data Way : Type 0 where
   Inserts : Way
   Generates : ℕ → List Fact → Way
@@ -50,7 +52,7 @@ left_atoms (Some m) = m.left
 abbrev pub image_of : List Rule → ℕ → List Datum → List Fact
 image_of ms n values = image_under (listed values) (left_atoms (slice_get ms n))
 
--- What a value of an operation stands for in E: a named null for the null of that outer name which stands first there.
+-- The value in E that a value of an operation stands for: a named null stands for the first null in E with its outer name.
 abbrev pub stands_for : List Fact → Datum → Datum
 stands_for E (Number i) = Number i
 stands_for E (Text w) = Text w

@@ -1,4 +1,5 @@
--- Why a tuple is in the repository that the serial machine leaves: where it came from, and where that came from, back to the base and to what curators inserted.
+-- Why a tuple is in the repository that the serial machine leaves: its origin, and the origins of the tuples on which it rests,
+-- back to the base and to insertions by curators.
 use Rattle.std.specs.Prelude.{◌≡◌, ℕ, not, if◌then◌else◌, List, [], ◌∷◌, ◌++◌, map, filter, reverse, Option, Some, None, find, unwrap_or}
 use Rattle.std.specs.List.{flat_map}
 use Rattle.def_chase.specs.Values.{Fact, same_fact, under}
@@ -9,7 +10,8 @@ use Rattle.def_steps.specs.Serial.{Request, turns_of, serial_result}
 use Rattle.def_provenance.specs.Puts.{Way, Inserts, Generates, Rewrites, Step, puts, deleted}
 use Rattle.def_provenance.specs.Courses.{serial_steps}
 
--- How a tuple came to be there: it is of the base; this step of this update inserted it, generated it by a mapping for an image, or rewrote that tuple to it.
+-- How a tuple came to be there: it is of the base; or this step of this update inserted it, generated it by a mapping for an
+-- image, or rewrote the given tuple to it.
 pub data How : Type 0 where
   FromBase : How
   Inserted : ℕ → ℕ → How
@@ -20,7 +22,7 @@ pub record Reason : Type 0 where
   pub tuple : Fact
   pub how : How
 
--- The least of the tuples deleted by a step of this substitution that it takes to t. They are deleted in order.
+-- The first of the tuples ds, which a step deleted in order, that the substitution f takes to t.
 abbrev pub source : List Fact → Fact → (Rattle.def_chase.specs.Values.Datum → Rattle.def_chase.specs.Values.Datum) → Fact
 source ds t f = unwrap_or (find (λ d. same_fact t (under f d)) ds) t
 
@@ -38,18 +40,19 @@ reason_at s t = record { tuple = t; how = how_by s.update s.step (deleted s.writ
 abbrev pub rooted : Fact → Reason
 rooted t = record { tuple = t; how = FromBase }
 
--- What a reason rests on: tuples that stood before its step.
+-- The premises of a reason: the tuples, which stood before its step, on which it rests.
 abbrev pub premises : How → List Fact
 premises FromBase = []
 premises (Inserted u s) = []
 premises (Generated u s n image) = image
 premises (Rewritten u s t) = t ∷ []
 
--- The tuples that are still to be explained before a step: those that it did not put, and what its reasons rest on.
+-- The tuples still to be explained before a step: those that it did not put, and the premises of its reasons.
 abbrev pub sought_before : (Fact → Rattle.std.specs.Prelude.Bool) → List Reason → List Fact → List Fact
 sought_before put rs sought = apply (filter (λ t. not (put t)) sought) (map Insert (flat_map (λ (r : Reason). premises r.how) rs))
 
--- The reasons for these tuples after these steps, the last step first. The origin of a tuple is the last step that put it; one that no step put is of the base.
+-- The reasons for these tuples after these steps, the last step first. The origin of a tuple is the last step that put it; one
+-- that no step put is of the base.
 abbrev pub explained : List Step → List Fact → List Reason
 explained [] sought = map rooted sought
 explained (s ∷ earlier) sought =

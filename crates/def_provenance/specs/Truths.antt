@@ -1,4 +1,4 @@
--- What the reasons say of the run: of the base that it has their tuples, of a step that it puts its tuple, and from what.
+-- The truth of reasons: the base has the tuple, or the step puts the tuple from the tuples that the reason names.
 use Rattle.std.specs.Prelude.{◌≡◌, ℕ, ◌≤◌, nat_lt, Bool, true, List, Some, slice_get}
 use Rattle.std.specs.List.{list_all, AllByRecursion}
 use Rattle.def_chase.specs.Values.{Datum, Fact, under}
@@ -11,7 +11,8 @@ use Rattle.def_provenance.specs.Puts.{Rewrites, Step, puts, deleted}
 use Rattle.def_provenance.specs.Courses.{serial_steps}
 use Rattle.def_provenance.specs.Reasons.{How, FromBase, Inserted, Generated, Rewritten, Reason, reason_at, explanation}
 
--- Mapping n generates the tuple from an image in D: under one binding the image is its left side, and the tuple one of its right atoms.
+-- Mapping n generates the tuple from an image in D: under one binding the image is its left side, and the tuple one of its right
+-- atoms.
 pub record IsGenerated (ms : List Rule) (n : ℕ) (D image : List Fact) (t : Fact) : Type 0 where
   pub mapping : Rule
   pub named : slice_get ms n ≡ Some mapping
@@ -31,14 +32,14 @@ pub record IsRewritten (s : Step) (from t : Fact) : Type 0 where
   pub gone : has (deleted s.writes) from ≡ true
   pub becomes : under by from ≡ t
 
--- What the reason for a tuple says of its step is true.
+-- The reason for a tuple is true of this step.
 abbrev pub IsTrueAt : List Rule → Step → Fact → How → Type 0
 IsTrueAt ms s t FromBase = ⊥
 IsTrueAt ms s t (Inserted u k) = Unit {0}
 IsTrueAt ms s t (Generated u k n image) = IsGenerated ms n s.before image t
 IsTrueAt ms s t (Rewritten u k from) = IsRewritten s from t
 
--- One of the steps puts the tuple, and the reason is the one at this step, with its numbers, and true there.
+-- One of the steps puts the tuple, the reason is the one at this step, with its numbers, and it is true of the step.
 pub record IsPutBy (ms : List Rule) (ss : List Step) (t : Fact) (how : How) : Type 0 where
   pub place : ℕ
   pub step : Step
@@ -47,7 +48,7 @@ pub record IsPutBy (ms : List Rule) (ss : List Step) (t : Fact) (how : How) : Ty
   pub said : (reason_at step t).how ≡ how
   pub true_there : IsTrueAt ms step t how
 
--- A reason is true of a run with these steps over the base D: the base has the tuple, or a step put it as is said.
+-- A reason is true of a run with these steps over the base D: the base has the tuple, or a step put it as the reason says.
 abbrev pub IsTrueBy : List Rule → List Fact → List Step → Fact → How → Type 0
 IsTrueBy ms D ss t FromBase = has D t ≡ true
 IsTrueBy ms D ss t how = IsPutBy ms ss t how
@@ -64,7 +65,8 @@ is_below n (Const d) = true
 abbrev pub IsNumbered : Rule → Type 0
 IsNumbered m = list_all (λ a. list_all (is_below m.universal) a.terms) m.left ≡ true
 
--- Every reason of an explanation is true of the serial machine's run, if the variables of left sides are numbered first and no mapping has a null among its constants.
+-- Every reason of an explanation is true of the serial machine's run, if the variables of left sides are numbered first and no
+-- mapping has a null among its constants.
 abbrev pub ReasonsAreTrue : Type 0
 ReasonsAreTrue =
     (ms : List Rule) (B : ℕ) (D : List Fact) (rs : List Request) (t : Fact) (reasons : List Reason) → 1 ≤ B → HaveNoNulls ms → AllByRecursion IsNumbered ms

@@ -1,4 +1,4 @@
--- Each update has one ticket out at most, and each number is given once.
+-- Each update has at most one ticket out, and each number is given once.
 use Rattle.std.specs.Prelude.{◌≡◌, ℕ, zero, suc, ◌<◌, ◌≤◌, List, [], ◌∷◌, ◌++◌, length, Some, None}
 use Rattle.def_machine.specs.Machine.{Machine}
 use Rattle.def_record.specs.declared.made.Made.{Made}
@@ -8,7 +8,7 @@ use Rattle.def_record.specs.Items.{Record}
 use Rattle.def_record.specs.Tickets.{Ticket, ticket_of, without}
 use Rattle.def_record.specs.Records.{Now, now_of, IsRecord}
 
--- The tickets have numbers that rise, the first above n, and each stands for another update than those behind it.
+-- The numbers of the tickets rise, the first is above n, and each ticket is for another update than those after it.
 abbrev pub AreApart : ℕ → List Ticket → Type 0
 AreApart n [] = Unit {0}
 AreApart n (t ∷ ts) = (n < t.number) × (ticket_of t.update ts ≡ None) × AreApart t.number ts
@@ -18,7 +18,7 @@ abbrev pub AreGiven : ℕ → List Ticket → Type 0
 AreGiven n [] = Unit {0}
 AreGiven n (t ∷ ts) = (t.number ≤ n) × AreGiven n ts
 
--- 1, 2, .. up to n.
+-- The numbers 1, 2, .. up to n.
 abbrev pub up_to : ℕ → List ℕ
 up_to zero = []
 up_to (suc n) = up_to n ++ suc n ∷ []
@@ -40,11 +40,11 @@ pub record HasTickets (M : Machine) (n : Now M) (r : Record M) : Type 0 where
   pub given : AreGiven n.given n.out
   -- the tickets were given with the numbers 1, 2, .., each once
   pub once : numbers_in r ≡ up_to n.given
-  -- a number is no more than the record is long
+  -- the number of tickets given is less than the length of the record
   pub few : n.given < length r
-  -- where one is returned its update is in flight no more
+  -- once a ticket is returned, its update is not in flight
   pub back : (t : Ticket) → ticket_of t.update n.out ≡ Some t → ticket_of t.update (without t.number t.maker n.out) ≡ None
 
--- After every record.
+-- This holds after every record.
 abbrev pub ApartLaw : Machine → Type 0
 ApartLaw M = (r : Record M) (n : Now M) → IsRecord r → now_of r ≡ Some n → HasTickets M n r

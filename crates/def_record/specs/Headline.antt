@@ -1,4 +1,4 @@
--- What a desk comes to whose seats are all at rest.
+-- The end of a desk whose seats are all at rest.
 use Rattle.std.specs.Prelude.{◌≡◌, ◌<◌, Bool, true, false, List, ◌++◌, map, length}
 use Rattle.std.specs.List.{list_all}
 use Rattle.def_machine.specs.Machine.{Machine}
@@ -14,7 +14,7 @@ use Rattle.def_record.specs.Records.{IsRecord}
 use Rattle.def_record.specs.Openings.{opening}
 use Rattle.def_record.specs.Rests.{AreSeen, AllRest}
 
--- A step or a delivery.
+-- The entry is a step or a delivery.
 abbrev pub is_move : {M : Machine} → Entry M → Bool
 is_move (Admitted i) = false
 is_move (Stepped d) = true
@@ -22,8 +22,8 @@ is_move (Delivered i s) = true
 is_move (Answered i c s) = false
 is_move (Withdrew i cs n) = false
 
--- The history is legal, begins with H and goes on by steps and deliveries alone, ends quiet, and is the serial machine's
--- result on the session.
+-- The history is legal, begins with H, goes on with steps and deliveries only, ends quiet, and has the serial machine's result on
+-- the session.
 pub record EndsSerial (M : Machine) (s : Settings) (S : Session M) (H : List (Entry M)) (history : List (Entry M)) : Type 0 where
   pub updates : List (Update M)
   pub legal : IsLegal M s S history updates
@@ -37,7 +37,8 @@ pub record EndsSerial (M : Machine) (s : Settings) (S : Session M) (H : List (En
   pub turns : List (Turn M)
   pub whole : IsWholeSession M S (record { updates = updates; entries = history }) turns
 
--- A core to which the whole session was admitted, a record of a desk over it, and seats at rest that have seen all that they made.
+-- This holds if the whole session was admitted to the core, the record is of a desk over it, and the seats are at rest and have
+-- seen all items that they made.
 abbrev pub HeadlineLaw : Machine → Type 0
 HeadlineLaw M =
     (s : Settings) (S : Session M) (H : List (Entry M)) (us : List (Update M)) (later : Record M) (seen : List (Record M)) → M.Sound S.base

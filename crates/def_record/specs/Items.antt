@@ -7,11 +7,11 @@ use Rattle.def_record.specs.declared.made.Made.{Made}
 use Rattle.def_record.specs.declared.item.Item.{Item}
 use Rattle.def_record.specs.declared.item.Item.TheVariants.{Opened, Entered, Gave, Returned}
 
--- What this maker made.
+-- The entry a, made by this maker.
 abbrev pub made : {A : Type 0} → A → Option ℕ → Made A
 made a maker = record { entry = a; maker = maker }
 
--- The entry that an item is, if it is one.
+-- The entry of an item, if it has one.
 abbrev pub entry_in : {O E : Type 0} → Item O E → List E
 entry_in (Opened o n) = []
 entry_in (Entered e) = e ∷ []
@@ -23,7 +23,7 @@ abbrev pub entries_in : {O E : Type 0} → List (Made (Item O E)) → List E
 entries_in [] = []
 entries_in (i ∷ is) = entry_in i.entry ++ entries_in is
 
--- The item where what the core is over, and each entry, mean something else.
+-- The item, with the ground of the core and the entries translated.
 abbrev pub item_meant : {O E P F : Type 0} → (O → P) → (E → F) → Item O E → Item P F
 item_meant over entry (Opened o n) = Opened (over o) n
 item_meant over entry (Entered e) = Entered (entry e)
@@ -32,7 +32,7 @@ item_meant over entry (Returned t) = Returned t
 
 -- ---- over a machine
 
--- An item of a desk over a core of the machine: the core was opened over settings and a session.
+-- An item of a desk over a core of the machine, whose ground is settings and a session.
 abbrev pub ItemOf : Machine → Type 0
 ItemOf M = Item (Settings × Session M) (Entry M)
 

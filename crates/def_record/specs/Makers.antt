@@ -2,7 +2,7 @@
 use Rattle.std.specs.Prelude.{◌≡◌, ◌≢◌, ◌==◌, ℕ, ◌+◌, ◌≤◌, ◌⊎◌, List, [], ◌∷◌, ◌++◌, Option, Some, None, if◌then◌else◌}
 use Rattle.def_record.specs.declared.made.Made.{Made}
 
--- n where the seat j is the maker, and else nothing
+-- n if seat j is the maker, otherwise 0
 abbrev pub weight_for : ℕ → Option ℕ → ℕ → ℕ
 weight_for j None n = 0
 weight_for j (Some i) n = if i == j then n else 0
@@ -26,12 +26,12 @@ module _ {E : Type 0} where
   abbrev pub Extends : ℕ → List (Made E) → List (Made E) → Type 0
   Extends j xs ys = (rest : List (Made E)) × (xs ++ rest ≡ ys) × MadeBy j rest
 
-  -- what the entries that the seat j made weigh in all
+  -- the total weight of the entries that seat j made
   abbrev pub sum_made_by : (E → ℕ) → ℕ → List (Made E) → ℕ
   sum_made_by weight j [] = 0
   sum_made_by weight j (e ∷ es) = weight_for j e.maker (weight e.entry) + sum_made_by weight j es
 
-  -- The list ys begins with xs, and goes on by entries neither of the seat j nor of a seat from the n-th on.
-  -- The second half is what a seat needs that is yet to be split off, with the number n.
+  -- The list ys begins with xs, and goes on with entries that neither seat j nor a seat from number n on made. The second part is
+  -- needed for seats that are still to be split off, whose numbers begin at n.
   abbrev pub FollowsAmong : ℕ → ℕ → List (Made E) → List (Made E) → Type 0
   FollowsAmong n j xs ys = (rest : List (Made E)) × (xs ++ rest ≡ ys) × ((k : ℕ) → (k ≡ j) ⊎ (n ≤ k) → Unmade k rest)

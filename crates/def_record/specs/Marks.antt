@@ -1,4 +1,4 @@
--- What is kept behind the lock, and the record that it stands for.
+-- The marks that are kept inside the lock, and the record that they stand for.
 use Rattle.std.specs.Prelude.{◌≡◌, ℕ, suc, ◌+◌, List, [], ◌∷◌, ◌++◌, map, take, drop, length, Option}
 use Rattle.def_record.specs.declared.made.Made.{Made}
 use Rattle.def_record.specs.declared.item.Item.{Item}
@@ -7,7 +7,7 @@ use Rattle.def_record.specs.declared.item.Mark.{Mark}
 use Rattle.def_record.specs.declared.item.Mark.TheVariants.{Opening, Next, Giving, Returning}
 use Rattle.def_record.specs.Items.{made, entries_in, item_meant}
 
--- How many entries of the history a mark stands for.
+-- The number of entries of the history that a mark stands for.
 abbrev pub entries_for : Mark → ℕ
 entries_for (Opening n) = n
 entries_for Next = 1
@@ -22,19 +22,19 @@ entries_for_all (m ∷ ms) = entries_for m.entry + entries_for_all ms
 abbrev pub entered : {O E : Type 0} → Option ℕ → List E → List (Made (Item O E))
 entered maker es = map (λ e. made (Entered e) maker) es
 
--- The items that a mark stands for, where the entries from it on are these.
+-- The items that a mark stands for, if `es` are the entries of the history from it on.
 abbrev pub items_for : {O E : Type 0} → O → Mark → Option ℕ → List E → List (Made (Item O E))
 items_for o (Opening n) maker es = made (Opened o n) maker ∷ entered maker (take n es)
 items_for o Next maker es = entered maker (take 1 es)
 items_for o (Giving t u) maker es = made (Gave t u) maker ∷ []
 items_for o (Returning t) maker es = made (Returned t) maker ∷ []
 
--- The record of a core over o with the history es: the marks with the entries of the history put in.
+-- The record of a core with the ground o and the history es: the marks, with the entries of the history put in.
 abbrev pub record_of : {O E : Type 0} → O → List (Made Mark) → List E → List (Made (Item O E))
 record_of o [] es = []
 record_of o (m ∷ ms) es = items_for o m.entry m.maker es ++ record_of o ms (drop (entries_for m.entry) es)
 
--- How many items a mark stands for.
+-- The number of items that a mark stands for.
 abbrev pub count_for : Mark → ℕ
 count_for (Opening n) = suc n
 count_for Next = 1
@@ -45,20 +45,21 @@ abbrev pub count_for_all : List (Made Mark) → ℕ
 count_for_all [] = 0
 count_for_all (m ∷ ms) = count_for m.entry + count_for_all ms
 
--- What entries of a value's history mean as other items, each with its maker.
+-- The entries of a history translated, each with its maker.
 abbrev pub meant : {E F : Type 0} → (E → F) → List (Made E) → List (Made F)
 meant item xs = map (λ x. made (item x.entry) x.maker) xs
 
--- What holds of marks that stand for just the entries of a history.
+-- The properties of marks that stand for exactly the entries of a history.
 pub record AreMarks {O E : Type 0} (o : O) (ms : List (Made Mark)) (H : List E) : Type 0 where
   -- the entries of the record are the history
   pub history : entries_in (record_of o ms H) ≡ H
-  -- the marks tell how long the record is
+  -- the marks determine the length of the record
   pub count : length (record_of o ms H) ≡ count_for_all ms
   -- further marks, with further entries, are further items
   pub more : (ns : List (Made Mark)) (J : List E) → record_of o (ms ++ ns) (H ++ J) ≡ record_of o ms H ++ record_of o ns J
 
--- Of all marks; and where the entries mean others, the record means that of the same marks with these.
+-- This holds for all marks. If the entries are translated, the record is the record of the same marks with the translated
+-- entries.
 pub record MarkLaw (O E P F : Type 0) : Type 0 where
   pub marks : (o : O) (ms : List (Made Mark)) (H : List E) → entries_for_all ms ≡ length H → AreMarks o ms H
   pub meaning : (over : O → P) (entry : E → F) (o : O) (ms : List (Made Mark)) (H : List E)

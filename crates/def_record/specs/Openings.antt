@@ -1,4 +1,4 @@
--- The record of a desk that was just made.
+-- The record of a new desk.
 use Rattle.std.specs.Prelude.{◌≡◌, List, [], ◌∷◌, length, Some, None}
 use Rattle.def_machine.specs.Machine.{Machine}
 use Rattle.def_machine.specs.Updates.{Update, Session, Settings}
@@ -14,7 +14,7 @@ use Rattle.def_record.specs.Records.{Now, now_of, IsRecord}
 abbrev pub opening : {M : Machine} → Settings → Session M → List (Entry M) → Record M
 opening s S H = made (Opened (s, S) (length H)) None ∷ entered None H
 
--- What it leaves.
+-- The state after the opening.
 abbrev pub opened_now : {M : Machine} → Settings → Session M → List (Entry M) → List (Update M) → Now M
 opened_now s S H us = record { settings = s; session = S; opening = length H; updates = us; history = H; out = []; given = 0 }
 
@@ -24,6 +24,6 @@ pub record IsOpening (M : Machine) (s : Settings) (S : Session M) (H : List (Ent
   pub is : IsRecord (opening s S H)
   pub now : now_of (opening s S H) ≡ Some (opened_now s S H us)
 
--- Over every core.
+-- This holds over every core.
 abbrev pub OpeningLaw : Machine → Type 0
 OpeningLaw M = (s : Settings) (S : Session M) (H : List (Entry M)) (us : List (Update M)) → IsLegal M s S H us → IsOpening M s S H us

@@ -1,4 +1,4 @@
--- Records of a desk: what each leaves, and which items may follow.
+-- Records of a desk: the state after each, and the items that may follow.
 use Rattle.std.specs.Prelude.{◌≡◌, ℕ, suc, ◌<◌, ◌≤◌, false, not, ◌&&◌, List, [], ◌∷◌, ◌++◌, length, Option, Some, None, option_map}
 use Rattle.def_machine.specs.Machine.{Machine}
 use Rattle.def_machine.specs.Updates.{Update, Session, Settings, committed}
@@ -9,7 +9,8 @@ use Rattle.def_record.specs.declared.item.Item.TheVariants.{Opened, Entered, Gav
 use Rattle.def_record.specs.Items.{ItemOf, Record}
 use Rattle.def_record.specs.Tickets.{Ticket, ticket_of, in_flight, without, tickets_after}
 
--- What a record leaves: what the first item says, the core's updates and history, the tickets out, and how many were given.
+-- The state after a record: the settings, session and opening that the first item gives, the core's updates and history, the
+-- tickets out, and the number of tickets given.
 pub record Now (M : Machine) : Type 0 where
   pub settings : Settings
   pub session : Session M
@@ -19,11 +20,11 @@ pub record Now (M : Machine) : Type 0 where
   pub out : List Ticket
   pub given : ℕ
 
--- All entries that the core had at the opening are there.
+-- The desk is open: the history has all entries that the core had at the opening.
 abbrev pub IsOpen : {M : Machine} → Now M → Type 0
 IsOpen n = n.opening ≤ length n.history
 
--- Before any entry.
+-- The state before any entry.
 abbrev pub begun : {M : Machine} → Settings → Session M → ℕ → Now M
 begun s S k = record { settings = s; session = S; opening = k; updates = []; history = []; out = []; given = 0 }
 
@@ -55,11 +56,11 @@ with_out n out given =
       given = given;
     }
 
--- The ticket that the seat j is given now for the update.
+-- The ticket that seat j now gets for update u.
 abbrev pub next_ticket : {M : Machine} → Now M → ℕ → ℕ → ℕ → Ticket
 next_ticket n number u j = record { number = number; update = u; maker = j; stamp = length n.history; used = false }
 
--- What an item leaves.
+-- The state after an item.
 abbrev pub moved : {M : Machine} → Now M → ItemOf M → Option ℕ → Now M
 moved n (Opened o k) maker = n
 moved n (Entered e) None = entered_on n e n.out
@@ -69,19 +70,19 @@ moved n (Gave t u) (Some j) = with_out n (n.out ++ next_ticket n t u j ∷ []) (
 moved n (Returned t) None = n
 moved n (Returned t) (Some j) = with_out n (without t j n.out) n.given
 
--- What items leave, one after the other.
+-- The state after items, one after the other.
 abbrev pub after_items : {M : Machine} → Now M → Record M → Now M
 after_items n [] = n
 after_items n (i ∷ is) = after_items (moved n i.entry i.maker) is
 
--- What the first item says.
+-- The state after the first item, if it is an opening.
 abbrev pub opened_by : {M : Machine} → ItemOf M → Option (Now M)
 opened_by (Opened o k) = Some (begun o.0 o.1 k)
 opened_by (Entered e) = None
 opened_by (Gave t u) = None
 opened_by (Returned t) = None
 
--- What a record leaves; nothing where it doesn't begin with an opening.
+-- The state after a record; None if the record does not begin with an opening.
 abbrev pub now_of : {M : Machine} → Record M → Option (Now M)
 now_of [] = None
 now_of (i ∷ is) = option_map (λ n. after_items n is) (opened_by i.entry)
@@ -90,13 +91,13 @@ now_of (i ∷ is) = option_map (λ n. after_items n is) (opened_by i.entry)
 abbrev pub lowest_free : {M : Machine} → Now M → Option ℕ
 lowest_free {M} n = lowest_that (λ i u. is_ready (standing M n.settings (committed M n.updates) i u) && not (in_flight i n.out)) 1 n.updates
 
--- The entry is that of its event here.
+-- The entry is the entry of its event in this state.
 pub record IsNextEntry (M : Machine) (n : Now M) (e : Entry M) : Type 0 where
   pub made : Effect M
   pub allowed : effect M n.settings n.session n.updates (event_of e) ≡ Some made
   pub told : made.entry ≡ e
 
--- The seat j may make an entry of this kind: a step with its ticket for the update, by which no step was made, or a delivery.
+-- Seat j may make an entry of this kind: a step with its ticket for the update, with which no step was made, or a delivery.
 abbrev pub MayEnter : {M : Machine} → List Ticket → ℕ → Entry M → Type 0
 MayEnter out j (Admitted i) = ⊥
 MayEnter out j (Stepped d) = (t : Ticket) × (ticket_of d.update out ≡ Some t) × (t.maker ≡ j) × (t.used ≡ false)
@@ -104,7 +105,7 @@ MayEnter out j (Delivered i s) = Unit {0}
 MayEnter out j (Answered i c s) = ⊥
 MayEnter out j (Withdrew i cs n) = ⊥
 
--- The item may follow. The entries that the core had have no maker, and all that comes after them has one.
+-- The item may follow in this state. The entries that the core had have no maker; all later items have one.
 abbrev pub MayFollow : {M : Machine} → Now M → ItemOf M → Option ℕ → Type 0
 MayFollow n (Opened o k) maker = ⊥
 MayFollow {M} n (Entered e) None = IsNextEntry M n e × (length n.history < n.opening)
@@ -124,6 +125,6 @@ abbrev pub IsRecord : {M : Machine} → Record M → Type 0
 IsRecord [] = ⊥
 IsRecord {M} (i ∷ is) = (n : Now M) × (opened_by i.entry ≡ Some n) × (i.maker ≡ None) × AllFollow n is
 
--- Of all records of desks.
+-- This holds for all records of desks.
 abbrev pub RecordLaw : Machine → Type 0
 RecordLaw M = (r : Record M) (n : Now M) → IsRecord r → now_of r ≡ Some n → IsLegal M n.settings n.session n.history n.updates

@@ -1,4 +1,4 @@
--- What a desk over the chase comes to whose seats are all at rest: the serial machine's result on the session.
+-- The end of a desk over the chase whose seats are all at rest: the serial machine's result on the session.
 use Rattle.std.specs.Prelude.{◌≡◌, ℕ, ◌<◌, true, List, ◌++◌, map, length}
 use Rattle.std.specs.List.{list_all}
 use Rattle.def_machine.specs.Updates.{Update, Session, Settings}
@@ -20,14 +20,17 @@ use Rattle.def_record.specs.Openings.{opening}
 use Rattle.def_record.specs.Rests.{AreSeen, AllRest}
 use Rattle.def_record.specs.Headline.{EndsSerial}
 
--- The history is legal, begins with H and goes on by steps and deliveries alone, and ends quiet. What is told of it, nulls by their outer forms, is what the serial machine tells of the session. Every mapping in force holds in the repository that it leaves, and outer forms tell the tuples there apart.
+-- The history is legal, begins with H, goes on with steps and deliveries only, and ends quiet. Its result, with nulls by their
+-- outer forms, is the serial machine's result on the session. Every mapping in force holds in the repository that it leaves, and
+-- different tuples there have different outer forms.
 pub record EndsWithResult (ms : List Rule) (B : ℕ) (s : Settings) (S : Session (caused_chase ms B)) (H history : List (Entry (caused_chase ms B))) : Type 0 where
   pub ends : EndsSerial (caused_chase ms B) s S H history
   pub result : serial_result ms B S.base (requests ms B S) ≡ tells ms B S ends.updates (first_stop (caused_chase ms B) 1 ends.updates)
   pub hold : AllHold ms (left ms B S ends.updates)
   pub apart : (x y : Fact) → has (left ms B S ends.updates) x ≡ true → has (left ms B S ends.updates) y ≡ true → outer x ≡ outer y → x ≡ y
 
--- A core to which the whole session was admitted, a record of a desk over it, and seats at rest that have seen all that they made.
+-- This holds if the whole session was admitted to the core, the record is of a desk over it, and the seats are at rest and have
+-- seen all items that they made.
 abbrev pub ResultLaw : Type 0
 ResultLaw =
     (ms : List Rule) (B : ℕ) (s : Settings) (S : Session (caused_chase ms B)) (H : List (Entry (caused_chase ms B))) (us : List (Update (caused_chase ms B)))

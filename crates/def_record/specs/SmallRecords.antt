@@ -27,8 +27,8 @@ admissions = Admitted 1 ∷ Admitted 2 ∷ []
 abbrev pub by_seat : ℕ → ItemOf (small 2) → Made (ItemOf (small 2))
 by_seat j x = made x (Some j)
 
--- Seat 0 has a ticket for update 1 and seat 1 one for update 2. Seat 1 finishes first, then seat 0, whose write changes what
--- update 2 had read.
+-- Seat 0 has a ticket for update 1 and seat 1 one for update 2. Seat 1 finishes first, then seat 0, whose write changes a value
+-- that update 2 had read.
 abbrev pub meeting_items : Record (small 2)
 meeting_items =
     by_seat 0 (Gave 1 1) ∷ by_seat 1 (Gave 2 2)
@@ -36,7 +36,7 @@ meeting_items =
     ∷ by_seat 0 (Entered (a_step 2 1 0 (Paused Missing) (1 ∷ []) (Conflict 2 1 1 false true ∷ []) 0)) ∷ by_seat 0 (Returned 1)
     ∷ []
 
--- The marks that stand for it.
+-- The marks that stand for this record.
 abbrev pub meeting_marks : List (Made Mark)
 meeting_marks =
     made (Opening 2) None ∷ made (Giving 1 1) (Some 0) ∷ made (Giving 2 2) (Some 1) ∷ made Next (Some 1) ∷ made (Returning 2) (Some 1)
@@ -47,7 +47,7 @@ meeting_entries =
     Admitted 1 ∷ Admitted 2 ∷ a_step 2 2 0 (Ended Done) (2 ∷ []) [] 0
     ∷ a_step 2 1 0 (Paused Missing) (1 ∷ []) (Conflict 2 1 1 false true ∷ []) 0 ∷ []
 
--- What a desk answers after a record, if it is open.
+-- The answer of a desk after a record, if the record begins with an opening.
 abbrev pub answer_after : Record (small 2) → Option Answer
 answer_after r = option_map next_answer (now_of r)
 

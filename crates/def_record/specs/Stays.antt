@@ -1,4 +1,4 @@
--- A ticket stays out while others go on.
+-- A ticket stays out while other seats go on.
 use Rattle.std.specs.Prelude.{◌≡◌, ◌++◌, Some}
 use Rattle.def_machine.specs.Machine.{Machine}
 use Rattle.def_history.specs.Spares.{AllSpare}
@@ -11,14 +11,14 @@ use Rattle.def_record.specs.Records.{Now, IsOpen, after_items, now_of, IsRecord}
 abbrev pub IsOut : {M : Machine} → Ticket → Now M → Type 0
 IsOut t n = ticket_of t.update n.out ≡ Some t
 
--- What holds of a ticket that is out, after items of other seats.
+-- The properties of a ticket that is out, after items of other seats.
 pub record StaysOut (M : Machine) (t : Ticket) (n : Now M) (rest : Record M) : Type 0 where
   pub out : IsOut t (after_items n rest)
   -- the ticket's update made no step and was not withdrawn
   pub spared : AllSpare t.update (entries_in rest)
   pub history : (after_items n rest).history ≡ n.history ++ entries_in rest
 
--- Of every ticket.
+-- This holds for every ticket.
 abbrev pub StayLaw : Machine → Type 0
 StayLaw M =
     (seen rest : Record M) (n : Now M) (t : Ticket) → IsRecord (seen ++ rest) → now_of seen ≡ Some n → IsOpen n → IsOut t n

@@ -1,8 +1,9 @@
-// What a desk's record is a list of, and the marks that it is kept by.
+// The items of a desk's record, and the marks by which the record is kept.
 
-/// An item of a desk's record. `O` is what the core was opened over, `E` what an entry of its history is. Contracts speak of such items; no code makes one.
+/// An item of a desk's record. `O` is the type of the core's ground, `E` the type of an entry of its history. Only contracts
+/// speak of items; no code makes one.
 pub enum Item<O, E> {
-    /// The desk was opened, over a core whose history had so many entries.
+    /// The desk was opened, over a core with this ground whose history had this number of entries.
     Opened(O, u64),
     /// An entry of the core's history.
     Entered(E),
@@ -12,10 +13,10 @@ pub enum Item<O, E> {
     Returned(u64),
 }
 
-/// A mark of a desk. With the core's history the marks tell the record, so no entry is kept twice.
+/// A mark of a desk. Together with the core's history the marks determine the record, so no entry is kept twice.
 #[derive(Drop)]
 pub enum Mark {
-    /// The desk was opened, where the history had so many entries.
+    /// The desk was opened, when the history had this number of entries.
     Opening(u64),
     /// The next entry of the history.
     Next,

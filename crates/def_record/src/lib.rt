@@ -1,6 +1,8 @@
-//! What a desk's record is, and what a seat knows by it.
+//! The record of a desk, and what a seat knows from it.
 //!
-//! A desk hands tickets for updates to seats. Its record is a list of items: the opening, the entries of the core's history, the tickets given and returned. Each item has the seat that made it, or none. The definitions stand in `specs/`; each function here is a law, whose contract is the statement and whose body is empty.
+//! A desk hands tickets for updates to seats. Its record is a list of items: the opening, the entries of the core's history, and
+//! the tickets given and returned. Each item has the seat that made it, or none. The definitions stand in `specs/`. Each function
+//! here is a law: its contract is the statement, and its body is empty.
 #![tactic(auto)]
 
 mod item;

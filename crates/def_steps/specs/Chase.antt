@@ -1,4 +1,4 @@
--- The chase as a machine: its updates work in the steps of this crate, over repositories of tuples.
+-- The chase as a machine: its updates make the steps of this crate, over repositories of tuples.
 use Rattle.std.specs.Prelude.{◌≡◌, ℕ, Bool, true, List}
 use Rattle.std.specs.Option.{option_map}
 use Rattle.def_machine.specs.Machine.{Machine}
@@ -24,13 +24,14 @@ pub record AgreeOn (p : ℕ → Bool) (D E : List Fact) : Type 0 where
   pub also : IsRepository E
   pub same : (t : Fact) → p t.relation ≡ true → has D t ≡ has E t
 
--- A machine says of a refusal only that it is one; which null was missing stands in the state.
+-- How the attempt ended, in the terms of a machine, for which a refusal has no null.
 abbrev pub ending : Outcome → Rattle.def_machine.specs.Machine.Outcome
 ending Done = Rattle.def_machine.specs.Machine.Done
 ending Spent = Rattle.def_machine.specs.Machine.Spent
 ending (Refused n) = Rattle.def_machine.specs.Machine.Refused
 
--- The chase with these mappings and this budget of steps. The scope says which violations a look counts, by the update's operation.
+-- The chase with these mappings and this budget of steps. Given the update's operation, the scope says which violations a look
+-- counts.
 abbrev pub chase : (Operation → Scope) → List Rule → ℕ → Machine
 chase scope ms B =
     record {
@@ -63,18 +64,18 @@ chase scope ms B =
       Alike = AgreeOn;
     }
 
--- Every violation is counted, whatever the operation.
+-- Every violation counts, whatever the operation.
 abbrev pub every : Operation → Scope
 every op = Every
 
--- The violations are counted that the update caused in its direction.
+-- Only the violations that the update caused in its direction count.
 abbrev pub caused : Operation → Scope
 caused op = Caused (direction_of op)
 
--- The chase that looks at every violation: the serial machine's.
+-- The chase that looks at every violation. The serial machine is defined by it.
 abbrev pub whole_chase : List Rule → ℕ → Machine
 whole_chase = chase every
 
--- The chase that looks at the violations which the update caused: that of attempts in any order.
+-- The chase that looks only at the violations that the update caused. Attempts in any order use it.
 abbrev pub caused_chase : List Rule → ℕ → Machine
 caused_chase = chase caused

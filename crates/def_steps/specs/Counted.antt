@@ -1,4 +1,4 @@
--- Which violations an update has caused, in the words of its writes and of the bindings of the mapping.
+-- The violations that an update has caused, defined by its writes and by the bindings of the mapping.
 use Rattle.std.specs.Prelude.{◌≡◌, ◌≢◌, ℕ, false, true, List, ◌∷◌, ◌++◌, Option, Some, None, slice_get}
 use Rattle.std.specs.Bool.{Decides}
 use Rattle.std.specs.List.{AllByRecursion}
@@ -14,21 +14,22 @@ abbrev pub tuple_of : Change → Fact
 tuple_of (Insert t) = t
 tuple_of (Delete t) = t
 
--- The last of the writes that is of the tuple inserts it.
+-- The last write of the tuple inserts it.
 pub record IsInserted (own : List Change) (t : Fact) : Type 0 where
   pub before : List Change
   pub after : List Change
   pub there : own ≡ before ++ Insert t ∷ after
   pub last : AllByRecursion (λ w. tuple_of w ≢ t) after
 
--- Some tuple of the image is one that the update's last write of it inserted.
+-- Some tuple of the image was inserted by the update's last write of it.
 pub record IsCausedForward (own : List Change) (image : List Fact) : Type 0 where
   pub place : ℕ
   pub tuple : Fact
   pub there : slice_get image place ≡ Some tuple
   pub inserted : IsInserted own tuple
 
--- Some binding with this image makes a right atom a tuple that the update has deleted: without the deletion that binding might have met it.
+-- Some binding with this image makes a right atom a tuple that the update has deleted: without the deletion, that binding might
+-- have met the right side.
 pub record IsCausedBackward (own : List Change) (m : Rule) (image : List Fact) : Type 0 where
   pub binding : Binding
   pub is_image : image_under binding m.left ≡ image
@@ -44,23 +45,23 @@ IsCounted Every own m image = Unit {0}
 IsCounted (Caused Forward) own m image = IsCausedForward own image
 IsCounted (Caused Backward) own m image = IsCausedBackward own m image
 
--- The image is that of a violation in D that counts in the scope.
+-- The tuples are the image of a violation in D that counts in the scope.
 pub record IsViolationIn (scope : Scope) (own : List Change) (m : Rule) (D image : List Fact) : Type 0 where
   pub violation : IsViolation m D image
   pub counted : IsCounted scope own m image
 
--- Of tuples of D, the test decides whether they are the image of a violation that counts.
+-- For lists of tuples of D, the test `violates` decides whether they are the image of a violation that counts.
 abbrev pub ScopesDecide : Type 0
 ScopesDecide =
     (scope : Scope) (own : List Change) (m : Rule) (D image : List Fact) → all_in D image ≡ true
     → Decides (violates scope own m D image) (IsViolationIn scope own m D image)
 
--- The first violation of a scope counts there, and none that counts has a lesser image, compared tuple by tuple.
+-- The violation counts in the scope, and no violation that counts has a lesser image, compared tuple by tuple.
 pub record IsFirstIn (scope : Scope) (own : List Change) (m : Rule) (D image : List Fact) : Type 0 where
   pub counts : IsViolationIn scope own m D image
   pub least : (other : List Fact) → IsViolationIn scope own m D other → is_gt (slice_cmp fact_cmp image other) ≡ false
 
--- What is found is the first one; where nothing is found none counts.
+-- The violation that is found is the first one; if none is found, none counts.
 pub record FirstInScope : Type 0 where
   pub found : (scope : Scope) (own : List Change) (m : Rule) (D image : List Fact) → IsRepository D
       → first_violation scope own m D ≡ Some image → IsFirstIn scope own m D image

@@ -1,4 +1,4 @@
--- Where the values come from that an update writes: constants, values of the repository below it, and its own fresh nulls.
+-- The origins of the values that an update writes: constants, values of the repository below it, and its own fresh nulls.
 use Rattle.std.specs.Prelude.{◌≡◌, ℕ, ◌==◌, nat_lt, Bool, true, false, not, ◌&&◌, ◌||◌, List, []}
 use Rattle.std.specs.List.{list_any, list_all}
 use Rattle.def_machine.specs.Updates.{Read}
@@ -32,7 +32,7 @@ abbrev pub written : Change → Fact
 written (Insert t) = t
 written (Delete t) = t
 
--- The values of all that an attempt over D has written come from D and from the nulls that it has drawn.
+-- The values of all tuples that an attempt over D has written are constants, or come from D or from the nulls that it has drawn.
 abbrev pub NullsComeFrom : Type 0
 NullsComeFrom =
     (scope : Operation → Scope) (ms : List Rule) (B : ℕ) (D : List Fact) (answers : List Choice) (u a : ℕ) (op : Operation) (P : Attempt) (log : List (Read (chase scope ms B))) → HaveNoNulls ms

@@ -1,21 +1,22 @@
--- The questions at a frontier, and which answers fit them.
+-- The questions at a frontier, and the answers that fit them.
 use Rattle.std.specs.Prelude.{◌==◌, Bool, true, false, not, ◌&&◌, List, length, filter, find, unwrap_or}
 use Rattle.std.specs.List.{list_any, list_all}
 use Rattle.def_chase.specs.Values.{Fact, same_fact, outer}
 use Rattle.def_chase.specs.Updates.{Choice, Expand, Unify, Drop}
 use Rattle.def_steps.specs.Attempts.{Question, Positive, Negative}
 
--- The tuple is the outer form of one of the tuples.
+-- o is the outer form of one of the tuples.
 abbrev pub is_outer_of : List Fact → Fact → Bool
 is_outer_of ts o = list_any (λ t. same_fact (outer t) o) ts
 
--- A positive question with these candidates is fitted by `expand`, and by `unify` with the outer form of a candidate.
+-- To a positive question with these candidates, `expand` fits, and so does `unify` with the outer form of a candidate.
 abbrev pub fits_positive : List Fact → Choice → Bool
 fits_positive cs Expand = true
 fits_positive cs (Unify o) = is_outer_of cs o
 fits_positive cs (Drop os) = false
 
--- A negative question with these left tuples is fitted by `delete` of some of them, at least one, each by its outer form; a repeated one counts once.
+-- To a negative question with these tuples, `delete` of at least one of them fits, each named by its outer form; a repeated one
+-- counts once.
 abbrev pub fits_negative : List Fact → Choice → Bool
 fits_negative ts Expand = false
 fits_negative ts (Unify o) = false
@@ -26,10 +27,10 @@ abbrev pub fits : Question → Choice → Bool
 fits (Positive r t cs) c = fits_positive cs c
 fits (Negative n ts) c = fits_negative ts c
 
--- The first candidate with that outer form; t where there is none.
+-- The first candidate with the outer form o; t if there is none.
 abbrev pub candidate : Fact → List Fact → Fact → Fact
 candidate t cs o = unwrap_or (find (λ s. same_fact (outer s) o) cs) t
 
--- Those of the tuples whose outer forms are named, in their order.
+-- The tuples whose outer forms are named, in their order.
 abbrev pub named : List Fact → List Fact → List Fact
 named ts os = filter (λ t. list_any (same_fact (outer t)) os) ts

@@ -1,4 +1,4 @@
--- Words in which small sessions and their results are written down.
+-- Abbreviations for small sessions and their results.
 use Rattle.std.specs.Prelude.{ℕ, List, [], ◌∷◌, Some, None, pos}
 use Rattle.def_machine.specs.Standings.{Lack}
 use Rattle.def_chase.specs.Values.{NullName, Datum, Number, Unknown, Fact}
@@ -24,11 +24,11 @@ fact r ds = record { relation = r; values = ds }
 abbrev pub atom : ℕ → List Slot → Pattern
 atom r ts = record { relation = r; terms = ts }
 
--- A mapping that is in force from the start, with so many variables on the left and so many that stand on the right alone.
+-- A mapping that is in force from the start, with n variables on the left and e that stand only on the right.
 abbrev pub rule : ℕ → ℕ → List Pattern → List Pattern → Rule
 rule n e left right = record { since = 0; universal = n; existential = e; left = left; right = right }
 
--- A mapping that the update of that number puts in force.
+-- A mapping that update u puts in force.
 abbrev pub added_rule : ℕ → ℕ → ℕ → List Pattern → List Pattern → Rule
 added_rule u n e left right = record { since = u; universal = n; existential = e; left = left; right = right }
 
@@ -38,15 +38,15 @@ request op answers = record { operation = op; answers = answers }
 abbrev pub repair : ℕ → List Datum → ℕ → Repair
 repair n ds i = record { mapping = n; binding = ds; atom = i }
 
--- Update n ended so, after so many steps, with so many nulls drawn.
+-- Update n ended with this outcome, and these numbers of steps made and nulls drawn.
 abbrev pub ends : ℕ → Outcome → ℕ → ℕ → Finished
 ends n o steps nulls = record { number = n; outcome = o; steps = steps; nulls = nulls }
 
--- All updates come to their ends, and this repository is left.
+-- All updates end, and this repository is left.
 abbrev pub all_end : List Finished → List Fact → SerialResult
 all_end fs D = record { finishes = fs; stop = None; repository = D }
 
--- The updates come to their ends up to the one of this number, which stops at the question for this lack.
+-- The updates end up to update n, which stops at the question for this lack.
 abbrev pub stop_at : List Finished → ℕ → Question → Lack → List Fact → SerialResult
 stop_at fs n q l D = record { finishes = fs; stop = Some (record { number = n; question = q; lack = l }); repository = D }
 

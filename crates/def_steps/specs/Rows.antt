@@ -1,4 +1,4 @@
--- Worked rows: what the serial machine makes of small sessions of one update.
+-- Worked rows: the results of the serial machine on small sessions of one update.
 use Rattle.std.specs.Prelude.{◌≡◌, ℕ, List, [], ◌∷◌, ◌++◌, codes}
 use Rattle.def_machine.specs.Standings.{Missing, Misfit}
 use Rattle.def_chase.specs.Values.{Datum, Text, Fact}
@@ -76,7 +76,7 @@ two_beside = beside_one (num 2) ∷ beside_one (null 0 1) ∷ []
 
 -- ---- the rows
 
--- What an insertion repairs, draws, asks and takes for answers.
+-- Insertions: their repairs, the nulls that they draw, their questions, and the effects of answers.
 pub record Insertions : Type 0 where
   pub one_repair : one_update copying [] (Adds (one_in 0)) [] ≡ all_end (ends 1 Done 4 0 ∷ []) (one_in 0 ∷ one_in 1 ∷ [])
   pub fresh_null : one_update countries [] (Adds city) [] ≡ all_end (ends 1 Done 4 1 ∷ []) (city ∷ country (null 1 1) ∷ [])
@@ -95,7 +95,7 @@ pub record Insertions : Type 0 where
   pub already_there : one_update [] (one_in 0 ∷ []) (Adds (one_in 0)) [] ≡ all_end (ends 1 Done 2 0 ∷ []) (one_in 0 ∷ [])
   pub null_nowhere : one_update [] [] (Adds (fact 0 (null 0 9 ∷ []))) [] ≡ all_end (ends 1 (Refused (named_null 0 9)) 1 0 ∷ []) []
 
--- What a deletion repairs, asks and takes for answers.
+-- Deletions: their repairs, their questions, and the effects of answers.
 pub record Deletions : Type 0 where
   pub both_deleted : one_update meeting all_three (Removes (one_in 2)) (Drop (one_in 0 ∷ one_in 1 ∷ []) ∷ []) ≡ all_end (ends 1 Done 4 0 ∷ []) []
   pub one_deleted : one_update meeting all_three (Removes (one_in 2)) (Drop (one_in 0 ∷ []) ∷ []) ≡ all_end (ends 1 Done 4 0 ∷ []) (one_in 1 ∷ [])
@@ -105,7 +105,7 @@ pub record Deletions : Type 0 where
   pub deleted_unasked :
       one_update mirrored (fact 0 (num 1 ∷ num 1 ∷ []) ∷ one_in 1 ∷ []) (Removes (one_in 1)) [] ≡ all_end (ends 1 Done 3 0 ∷ []) []
 
--- What the budget of steps ends.
+-- Updates that run out of their budget of steps, or not.
 pub record Budgets : Type 0 where
   pub four_steps : serial_result long_cycle 4 [] (request (Adds (one_in 0)) [] ∷ []) ≡ all_end (ends 1 Spent 4 1 ∷ []) []
   pub default_budget :
@@ -114,7 +114,7 @@ pub record Budgets : Type 0 where
   pub unified :
       one_update long_cycle [] (Adds (one_in 0)) (Unify (one_in 0) ∷ []) ≡ all_end (ends 1 Done 7 1 ∷ []) (one_in 0 ∷ fact 1 (num 1 ∷ num 1 ∷ []) ∷ [])
 
--- What a replacement of a null makes of the tuples that hold it.
+-- Replacements of a null in the tuples that hold it.
 pub record Replacements : Type 0 where
   pub replace_merges : one_update [] two_beside (Replaces (named_null 0 1) (num 2)) [] ≡ all_end (ends 1 Done 2 0 ∷ []) (beside_one (num 2) ∷ [])
   pub refused_null : one_update [] two_beside (Replaces (named_null 0 9) (num 2)) [] ≡ all_end (ends 1 (Refused (named_null 0 9)) 1 0 ∷ []) two_beside

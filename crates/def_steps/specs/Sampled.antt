@@ -1,4 +1,5 @@
--- Sessions drawn at random, with what an independent implementation of the rules, written in another language from their description, makes of them.
+-- Sessions drawn at random, with the results of an independent implementation of the rules, written in another language from
+-- their description.
 use Rattle.std.specs.Prelude.{◌≡◌, List, [], ◌∷◌, codes, negsuc}
 use Rattle.def_machine.specs.Standings.{Missing, Misfit}
 use Rattle.def_chase.specs.Values.{Number, Text, Fact}

@@ -1,4 +1,4 @@
--- Sessions drawn at random with mappings that updates add, and what an independent implementation of the rules makes of them.
+-- Sessions drawn at random with mappings that updates add, and the results of an independent implementation of the rules.
 use Rattle.std.specs.Prelude.{◌≡◌, List, [], ◌∷◌, codes}
 use Rattle.def_machine.specs.Standings.{Missing}
 use Rattle.def_chase.specs.Values.{Text, Fact}

@@ -1,4 +1,4 @@
--- Worked rows: what the serial machine makes of sessions of several updates, mappings added by updates among them.
+-- Worked rows: the results of the serial machine on sessions of several updates, some of which add mappings.
 use Rattle.std.specs.Prelude.{◌≡◌, List, [], ◌∷◌}
 use Rattle.def_chase.specs.Values.{Fact}
 use Rattle.def_chase.specs.Mappings.{Var, Rule}
@@ -45,11 +45,11 @@ pub record Sessions : Type 0 where
       serial_result taking 100 [] taken_null
       ≡ all_end (ends 1 Done 2 0 ∷ ends 2 Done 6 1 ∷ ends 3 Done 2 0 ∷ [])
       (one_in 0 ∷ fact 1 (num 1 ∷ null 2 1 ∷ []) ∷ fact 2 (null 2 1 ∷ []) ∷ one_in 3 ∷ one_in 4 ∷ [])
-  -- The mapping repairs the base when it is added, and what comes later.
+  -- The base is repaired when the mapping is added, and later insertions too.
   pub mapping_added :
       serial_result added_copying 100 (one_in 0 ∷ []) added_mapping
       ≡ all_end (ends 1 Done 4 0 ∷ ends 2 Done 4 0 ∷ []) (one_in 0 ∷ two_in ∷ one_in 1 ∷ fact 1 (num 2 ∷ []) ∷ [])
-  -- The update that adds it is spent, so it is never in force.
+  -- The update that adds the mapping is spent, so it is never in force.
   pub mapping_spent :
       serial_result added_copying 2 (one_in 0 ∷ []) added_mapping
       ≡ all_end (ends 1 Spent 2 0 ∷ ends 2 Done 2 0 ∷ []) (one_in 0 ∷ two_in ∷ [])

@@ -1,4 +1,5 @@
--- Other attempt numbers: a shift takes attempt a of update u to a + n u, and commutes with every step, with updates taken whole and with the serial machine.
+-- Other attempt numbers: a shift takes attempt a of update u to attempt a + n u. It commutes with every step, with updates taken
+-- whole and with the serial machine.
 use Rattle.std.specs.Prelude.{◌≡◌, ℕ, ◌+◌, ◌==◌, Bool, true, List, map, Option}
 use Rattle.std.specs.Option.{option_map}
 use Rattle.std.specs.List.{list_all}
@@ -30,7 +31,8 @@ shift_phase n (Generate r) = Generate (shift_repair n r)
 shift_phase n (Asked q) = Asked (shift_question n q)
 shift_phase n (Ended o) = Ended o
 
--- The attempt with its own number and the attempts of all its nulls shifted. Its operation names nulls by outer forms, which stay.
+-- The attempt with its own number and the attempts of all its nulls shifted. Its operation names nulls by outer forms, which do
+-- not change.
 abbrev pub shift_attempt : (ℕ → ℕ) → Attempt → Attempt
 shift_attempt n P =
     record {
@@ -52,7 +54,7 @@ shift_read n r = (shift_query n r.0, shift_reply n r.1)
 
 -- ---- steps
 
--- The shifted attempt over the shifted repository asks the shifted queries, is answered with the shifted answers, and makes the shifted move.
+-- The shifted attempt over the shifted repository asks the shifted queries, gets the shifted answers, and makes the shifted move.
 pub record StepShifts (n : ℕ → ℕ) (scope : Scope) (ms : List Rule) (D : List Fact) (P : Attempt) (c : Option Choice) : Type 0 where
   pub reads : log_of (λ q. value ms q (map (shift_fact n) D) (map (shift_change n) P.own) scope) (step ms (shift_attempt n P) c) ≡ map (shift_read n) (log_of (λ q. value ms q D P.own scope) (step ms P c))
   pub move : result_of (λ q. value ms q (map (shift_fact n) D) (map (shift_change n) P.own) scope) (step ms (shift_attempt n P) c) ≡ shift_move n (result_of (λ q. value ms q D P.own scope) (step ms P c))
@@ -90,7 +92,7 @@ SerialShifts =
 
 -- ---- outer forms
 
--- The value is no null of an update.
+-- The value is not a null of an update: a constant, or a null of update 0.
 abbrev pub is_of_base : Datum → Bool
 is_of_base (Number i) = true
 is_of_base (Text w) = true
@@ -108,7 +110,7 @@ abbrev pub outer_question : Question → Question
 outer_question (Positive r t cs) = Positive (outer_repair r) (outer t) (map outer cs)
 outer_question (Negative m ts) = Negative m (map outer ts)
 
--- What is told, with all nulls by their outer forms.
+-- The result as people see it: all nulls by their outer forms.
 abbrev pub outer_told : SerialResult → SerialResult
 outer_told r =
     record {
@@ -117,11 +119,12 @@ outer_told r =
       repository = map outer r.repository;
     }
 
--- The turns taken by these attempts instead, by the update's number.
+-- The turns with other attempts: `attempts` gives each update's.
 abbrev pub by_attempts : (scope : Operation → Scope) (ms : List Rule) (B : ℕ) → (ℕ → ℕ) → List (Turn (chase scope ms B)) → List (Turn (chase scope ms B))
 by_attempts scope ms B attempts ts = map (λ (t : Turn (chase scope ms B)). record { number = t.number; attempt = attempts t.number; operation = t.operation; answers = t.answers }) ts
 
--- Whatever the attempts, the serial machine leaves the same outer forms, and tells the same by outer forms, as with attempt 0 of every update; the base has no nulls of updates.
+-- Whatever the attempts, the serial machine leaves the same repository and has the same result, by outer forms, as with attempt 0
+-- of every update.
 pub record OuterSame (scope : Operation → Scope) (ms : List Rule) (B : ℕ) (D : List Fact) (ts : List (Turn (chase scope ms B))) (attempts : ℕ → ℕ) : Type 0 where
   pub left : map outer (serial (chase scope ms B) D (by_attempts scope ms B attempts ts)).repository ≡ map outer (serial (chase scope ms B) D (by_attempts scope ms B (λ u. 0) ts)).repository
   pub tells : outer_told (told scope ms B (serial (chase scope ms B) D (by_attempts scope ms B attempts ts))) ≡ outer_told (told scope ms B (serial (chase scope ms B) D (by_attempts scope ms B (λ u. 0) ts)))

@@ -1,4 +1,4 @@
--- What a step depends on, and when there is one at a question.
+-- Laws of steps: a step depends only on its reads, and there is one at a question only if an answer fits.
 use Rattle.std.specs.Prelude.{◌≡◌, ℕ, ◌≤◌, if◌then◌else◌, List, Option, Some, None, slice_get}
 use Rattle.def_machine.specs.TreeLaw.{IsReplay}
 use Rattle.def_machine.specs.Machine.{Laws}
@@ -11,11 +11,12 @@ use Rattle.def_steps.specs.Questions.{fits}
 use Rattle.def_steps.specs.Steps.{step}
 use Rattle.def_steps.specs.Chase.{chase}
 
--- A step depends on its logged reads alone: whoever gives their answers, whenever, makes the same step with the same reads.
+-- A step depends only on its logged reads: if the queries get the logged answers, the step and its reads are the same.
 abbrev pub StepsReplay : Type 0
 StepsReplay = (ms : List Rule) (P : Attempt) (c : Option Choice) → IsReplay (step ms P c)
 
--- At a question the next answer is missing where there is none, and is a misfit exactly where it does not fit; elsewhere nothing is lacking.
+-- At a question the next answer is missing if there is none, and is a misfit exactly if it does not fit; elsewhere nothing is
+-- lacking.
 pub record FitsDecide (scope : Operation → Scope) (ms : List Rule) (B : ℕ) (answers : List Choice) (P : Attempt) : Type 0 where
   pub missing : (q : Question) → P.phase ≡ Asked q → slice_get answers P.taken ≡ None → lack (chase scope ms B) answers P ≡ Some Missing
   pub next : (q : Question) (c : Choice) → P.phase ≡ Asked q → slice_get answers P.taken ≡ Some c → lack (chase scope ms B) answers P ≡ (if fits q c then None else Some Misfit)

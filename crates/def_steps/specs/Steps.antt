@@ -1,4 +1,4 @@
--- One step of an attempt, as the tree of what it asks: one case for each row of the table in docs/RULES.md.
+-- One step of an attempt, as the tree of the queries that it asks: one case for each row of the table in docs/RULES.md.
 use Rattle.std.specs.Prelude.{ℕ, suc, ◌==◌, ◌+◌, nat_lt, Bool, true, false, ◌||◌, if◌then◌else◌, List, [], ◌∷◌, ◌++◌, map, Option, Some, None, find, unwrap_or, is_some, pos}
 use Rattle.std.specs.Option.{option_map}
 use Rattle.def_machine.specs.Trees.{Tree, Leaf, Node}
@@ -13,23 +13,23 @@ use Rattle.def_steps.specs.Attempts.{Done, Spent, Refused, Repair, Question, Pos
 use Rattle.def_steps.specs.Rewriting.{in_order, rewrite, replacing, null_of, nulls_in, moved_nulls, standing_for, binding_of, fresh_nulls, generated, next_atom}
 use Rattle.def_steps.specs.Questions.{candidate, named}
 
--- What a step does: its writes in order, the phase that it leaves, and how many nulls it draws.
+-- The move of a step: its writes in order, the phase after it, and the number of nulls that it draws.
 pub record Move : Type 0 where
   pub writes : List Change
   pub phase : Phase
   pub drawn : ℕ
 
--- What a step asks, and what it does by the answers.
+-- A tree of queries: each answer leads to the next query, and in the end to the step's move.
 abbrev pub Asking : Type 0
 Asking = Tree Query Reply Move
 
--- No further question: these writes, and this phase.
+-- No further query: the step makes these writes, and this is the phase after it.
 abbrev pub makes : List Change → Phase → Asking
 makes ws p = Leaf record { writes = ws; phase = p; drawn = 0 }
 
 -- ---- answers
 
--- The tuples of an answer to `Specific` or `Occurs`.
+-- The tuples of an answer to `Specific` or `Occurs`; none for any other answer.
 abbrev pub tuples_of : Reply → List Fact
 tuples_of Yes = []
 tuples_of No = []
@@ -59,7 +59,7 @@ image_in (Tuples ts) = None
 abbrev pub Holders : Type 0
 Holders = List (NullName × List Fact)
 
--- The null that a named null stands for. The number 0 stands for a name that was not looked up.
+-- The null that a named null stands for; the number 0 if it was not looked up.
 abbrev pub null_for : Holders → NullName → Datum
 null_for holders n = unwrap_or (option_map (λ (e : NullName × List Fact). standing_for e.0 e.1) (find (λ (e : NullName × List Fact). same_datum (Unknown e.0) (Unknown n)) holders)) (Number (pos 0))
 
@@ -69,18 +69,19 @@ resolve holders (Number i) = Number i
 resolve holders (Text w) = Text w
 resolve holders (Unknown n) = null_for holders n
 
--- Refused with the null if no tuple holds it.
+-- The attempt is refused with null n if no tuple holds it; otherwise it goes on with the rest.
 abbrev pub unless_none : NullName → List Fact → Asking → Asking
 unless_none n [] rest = makes [] (Ended (Refused n))
 unless_none n (t ∷ ts) rest = rest
 
--- `Occurs` of each null, up to the first with an empty answer.
+-- Asks `Occurs` of each null, up to the first with an empty answer, with which the attempt is refused.
 abbrev pub find_nulls : List NullName → (Holders → Asking) → Asking
 find_nulls [] go = go []
 find_nulls (n ∷ ns) go =
     Node (Occurs n.update n.place) (λ a. unless_none n (tuples_of a) (find_nulls ns (λ holders. go ((n, tuples_of a) ∷ holders))))
 
--- An insertion writes what is not there, a deletion what is. A replacement rewrites the tuples that hold the null. A mapping is put in force unasked.
+-- The step of the operation. An insertion writes the tuple if it is not there, a deletion if it is. A replacement rewrites the
+-- tuples that hold the null. A mapping is put in force without any query.
 abbrev pub start : Operation → Asking
 start (Adds t) =
     find_nulls (nulls_in t.values)
@@ -98,13 +99,15 @@ start (Enacts n) = makes (Insert (force n) ∷ []) Look
 
 -- ---- Look: the first violation that the update caused
 
--- The distinct left tuples of a backward violation: a single one is deleted, of several a person chooses.
+-- The repair of a violation by deletion, given the distinct tuples of its image: a single one is deleted; if there are several, a
+-- person chooses.
 abbrev pub negative : ℕ → List Fact → Asking
 negative n [] = makes [] Look
 negative n (t ∷ []) = makes (Delete t ∷ []) Look
 negative n (t ∷ s ∷ ts) = makes [] (Asked (Negative n (t ∷ s ∷ ts)))
 
--- The repair of a violation of mapping n: forward it draws a fresh null for each existential variable, and generates the right atoms in turn.
+-- The repair of a violation of mapping n. Forward, it draws a fresh null for each existential variable, and generates the right
+-- atoms in turn; backward, it deletes.
 abbrev pub repair : Attempt → Direction → ℕ → Rule → List Fact → Asking
 repair P Forward n m image =
     Leaf record {
@@ -114,16 +117,17 @@ repair P Forward n m image =
     }
 repair P Backward n m image = negative n (in_order image)
 
--- With an image the repair of that violation, with none what comes next.
+-- The repair of the violation with this image, if there is one; otherwise the rest.
 abbrev pub repair_or : Attempt → ℕ → Rule → Option (List Fact) → Asking → Asking
 repair_or P n m None rest = rest
 repair_or P n m (Some image) rest = repair P (direction_of P.operation) n m image
 
--- `Violation` of mapping n, and the repair of what it finds.
+-- Asks for the first violation of mapping n, and begins its repair; goes on with the rest if there is none.
 abbrev pub look_at : Attempt → ℕ → Rule → Asking → Asking
 look_at P n m rest = Node (Violation n) (λ a. repair_or P n m (image_in a) rest)
 
--- The mappings from number n on, up to the first violation. One that is in force from the start is looked at; one that an update of this number or a lower one may have put in force is looked at if that is so.
+-- Looks at the mappings from number n on, up to the first violation. A mapping that is in force from the start is looked at. If
+-- this update or a lower one may have put the mapping in force, it is looked at if it is in force.
 abbrev pub look_from : Attempt → ℕ → List Rule → Asking
 look_from P n [] = makes [] (Ended Done)
 look_from P n (m ∷ ms) =
@@ -133,12 +137,12 @@ look_from P n (m ∷ ms) =
 
 -- ---- Generate: a right atom's tuple
 
--- With no more specific tuple the generated one is inserted; else a person chooses.
+-- If there is no more specific tuple, the generated one is inserted; otherwise a person chooses.
 abbrev pub compared : List Rule → Repair → Fact → List Fact → Asking
 compared ms r t [] = makes (Insert t ∷ []) (next_atom ms r)
 compared ms r t (c ∷ cs) = makes [] (Asked (Positive r t (c ∷ cs)))
 
--- What is there needs nothing.
+-- The step of a right atom: if its tuple is there, nothing is written; otherwise the more specific tuples are asked for.
 abbrev pub generate : List Rule → Repair → Fact → Asking
 generate ms r t =
     Node (Present t)
@@ -146,19 +150,19 @@ generate ms r t =
 
 -- ---- Asked: the step of an answer that fits
 
--- `Occurs` of each null, and all the tuples found.
+-- Asks `Occurs` of each null, and goes on with all tuples found.
 abbrev pub gather : List NullName → (List Fact → Asking) → Asking
 gather [] go = go []
 gather (n ∷ ns) go = Node (Occurs n.update n.place) (λ a. gather ns (λ ts. go (tuples_of a ++ ts)))
 
--- The unifier of t and c goes through every tuple that holds a null it moves, and through the repair's values.
+-- Applies the unifier of t and c to every tuple that holds a null which it moves, and to the repair's values.
 abbrev pub unify : List Rule → Repair → Fact → Fact → Asking
 unify ms r t c =
     gather (moved_nulls t c)
     (λ ts. makes (rewrite (unifier t c) (in_order ts))
     (next_atom ms record { mapping = r.mapping; binding = map (unifier t c) r.binding; atom = r.atom }))
 
--- What an answer that fits does. One that does not fit is not taken.
+-- The step of an answer that fits. An answer that does not fit is not taken.
 abbrev pub answer : List Rule → Question → Choice → Asking
 answer ms (Positive r t cs) Expand = makes (Insert t ∷ []) (next_atom ms r)
 answer ms (Positive r t cs) (Unify o) = unify ms r t (candidate t cs o)
@@ -167,14 +171,14 @@ answer ms (Negative n ts) Expand = makes [] (Asked (Negative n ts))
 answer ms (Negative n ts) (Unify o) = makes [] (Asked (Negative n ts))
 answer ms (Negative n ts) (Drop os) = makes (map Delete (named ts os)) Look
 
--- A step at a question takes the next answer. Without one there is no step.
+-- A step at a question takes the next answer. Without an answer there is no step.
 abbrev pub by_answer : List Rule → Question → Option Choice → Asking
 by_answer ms q None = makes [] (Asked q)
 by_answer ms q (Some c) = answer ms q c
 
 -- ---- the step
 
--- The step of each phase, with the next answer if there is one. An attempt that has ended takes none.
+-- The step of each phase, with the next answer if there is one. An attempt that has ended makes no further step.
 abbrev pub step_in : List Rule → Attempt → Option Choice → Phase → Asking
 step_in ms P c Start = start P.operation
 step_in ms P c Look = look_from P 0 ms
@@ -186,7 +190,8 @@ step_in ms P c (Ended o) = makes [] (Ended o)
 abbrev pub step : List Rule → Attempt → Option Choice → Asking
 step ms P c = step_in ms P c P.phase
 
--- The attempt after a step: the writes are added, the step and, at a question, the answer are counted. With all B steps made an attempt that has not ended is spent.
+-- The attempt after a step: the writes are added, and the step, the nulls drawn and, at a question, the answer are counted. If
+-- all B steps are made and the attempt has not ended, it is spent.
 abbrev pub moved : ℕ → Attempt → Move → Attempt
 moved B P m =
     record {

@@ -6,21 +6,21 @@ use Rattle.def_chase.specs.Mappings.{Pattern, Rule, force_relation}
 use Rattle.def_chase.specs.Updates.{Operation, Adds, Removes, Replaces, Enacts}
 use Rattle.def_steps.specs.Serial.{Request}
 
--- The mapping, if there is one, has no `since` above u.
+-- If there is a mapping, its `since` is not above u.
 abbrev pub not_after : ℕ → Option Rule → Bool
 not_after u None = true
 not_after u (Some m) = not (nat_lt u m.since)
 
--- The values are those of the tuple that puts in force a mapping whose `since` is not above u.
+-- The values are those of a tuple that puts in force a mapping whose `since` is not above u.
 abbrev pub enacts_by : List Rule → ℕ → List Datum → Bool
 enacts_by ms u (Number (pos n) ∷ []) = not_after u (slice_get ms n)
 enacts_by ms u _ = false
 
--- If the tuple is of the relation that says which mappings are in force, it puts such a mapping in force.
+-- If the tuple is of the relation that says which mappings are in force, it puts in force a mapping whose `since` is not above u.
 abbrev pub in_time : List Rule → ℕ → Fact → Bool
 in_time ms u t = if t.relation == force_relation then enacts_by ms u t.values else true
 
--- The atom is not of that relation. No session can spell one that is.
+-- The atom is not of the relation that says which mappings are in force. No session can spell one that is.
 abbrev pub is_plain_atom : Pattern → Bool
 is_plain_atom a = not (a.relation == force_relation)
 
@@ -28,7 +28,7 @@ is_plain_atom a = not (a.relation == force_relation)
 abbrev pub repairs_plainly : List Rule → Bool
 repairs_plainly ms = list_all (λ m. list_all is_plain_atom m.right) ms
 
--- The operation, that of update u, inserts no tuple of that relation, and puts in force only a mapping whose `since` is not above u.
+-- The operation of update u inserts no tuple of that relation, and puts in force only a mapping whose `since` is not above u.
 abbrev pub acts_in_time : List Rule → ℕ → Operation → Bool
 acts_in_time ms u (Adds t) = not (t.relation == force_relation)
 acts_in_time ms u (Removes t) = true
@@ -40,7 +40,8 @@ abbrev pub ActInTime : List Rule → ℕ → List Request → Type 0
 ActInTime ms u [] = Unit {0}
 ActInTime ms u (r ∷ rs) = (acts_in_time ms u r.operation ≡ true) × ActInTime ms (suc u) rs
 
--- The session is timely.
+-- The session is timely: its mappings repair plainly, its base puts in force only mappings whose `since` is 0, and its updates
+-- act in time.
 pub record IsTimely (ms : List Rule) (D : List Fact) (rs : List Request) : Type 0 where
   pub mappings : repairs_plainly ms ≡ true
   pub base : list_all (in_time ms 0) D ≡ true

@@ -90,7 +90,7 @@ travel_updates =
     ∷ request (Adds (fact 0 (geneva ∷ []))) (Expand ∷ Unify (fact 1 (syr ∷ syracuse ∷ syracuse ∷ [])) ∷ [])
     ∷ []
 
--- The repository that the session leaves.
+-- The repository after the session.
 abbrev pub travelled : List Fact
 travelled =
     fact 0 (geneva ∷ [])

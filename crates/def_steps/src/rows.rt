@@ -1,26 +1,26 @@
-//! Worked rows, computed: what the serial machine makes of sessions, beside what was found by hand or by other means.
+//! Worked rows: computed results of the serial machine, compared with results found by hand or by other means.
 ghost use Rattle.def_steps.specs.Rows.{Insertions, Deletions, Budgets, Replacements};
 ghost use Rattle.def_steps.specs.SessionRows.{Sessions};
 ghost use Rattle.def_steps.specs.Travel.{Travels};
 ghost use Rattle.def_steps.specs.Sampled.{SampledSessions};
 ghost use Rattle.def_steps.specs.SampledAdded.{SampledAddedMappings};
 
-/// What insertions repair, which nulls they draw, what they ask, and what the answers do.
+/// Insertions: their repairs, the nulls that they draw, their questions, and the effects of answers.
 pub fn insertions_run()
     ensures { Insertions }
 {}
 
-/// What deletions repair, what they ask, and what the answers do.
+/// Deletions: their repairs, their questions, and the effects of answers.
 pub fn deletions_run()
     ensures { Deletions }
 {}
 
-/// A budget of steps ends an update, and leaves no write of it.
+/// An update that runs out of its budget of steps ends, and none of its writes is left.
 pub fn budgets_end()
     ensures { Budgets }
 {}
 
-/// A replacement of a null merges tuples, and is refused where the null is nowhere.
+/// A replacement of a null merges tuples, and is refused if the null is nowhere.
 pub fn replacements_run()
     ensures { Replacements }
 {}
@@ -35,7 +35,7 @@ pub fn travel_runs()
     ensures { Travels }
 {}
 
-/// Sessions drawn at random, as an independent implementation runs them.
+/// Sessions drawn at random, with the results of an independent implementation.
 pub fn sampled_sessions_run()
     ensures { SampledSessions }
 {}

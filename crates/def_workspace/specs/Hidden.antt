@@ -1,11 +1,11 @@
--- The hidden relations, which hold nothing between two updates, and the hidden mappings over them.
+-- The hidden relations, which are empty between two updates, and the hidden mappings over them.
 use Rattle.std.specs.Prelude.{ℕ, suc, ◌==◌, if◌then◌else◌, List, [], ◌∷◌, ◌++◌, map, length, filter, pos}
 use Rattle.std.specs.List.{range_with_len}
 use Rattle.def_chase.specs.Values.{Datum, Number, Fact}
 use Rattle.def_chase.specs.Mappings.{Slot, Var, Const, Pattern, Rule}
 use Rattle.def_chase.specs.Laws.{stands_in}
 
--- Relations of a workspace have the numbers below 100.
+-- The hidden relation _want. Relations of a workspace have numbers below 100.
 abbrev pub want_relation : ℕ
 want_relation = 100
 
@@ -15,11 +15,11 @@ unknown_relation = 101
 abbrev pub fix_relation : ℕ
 fix_relation = 102
 
--- That the j-th new unknown of an update is wanted.
+-- The tuple of _want that asks for the j-th new unknown of an update.
 abbrev pub wanted : ℕ → Fact
 wanted j = record { relation = want_relation; values = Number (pos j) ∷ [] }
 
--- That it is this value.
+-- The tuple of _unknown which says that the j-th new unknown is this value.
 abbrev pub found_as : ℕ → Datum → Fact
 found_as j d = record { relation = unknown_relation; values = Number (pos j) ∷ d ∷ [] }
 
@@ -42,7 +42,7 @@ shared_variables m = filter (λ v. stands_in v m.right) (range_with_len 0 m.univ
 abbrev pub right_variables : Rule → List ℕ
 right_variables m = shared_variables m ++ range_with_len m.universal m.existential
 
--- The place of a variable among them, from 0.
+-- The place of a variable in the list, from 0.
 abbrev pub place_among : List ℕ → ℕ → ℕ
 place_among [] v = 0
 place_among (w ∷ ws) v = if w == v then 0 else suc (place_among ws v)
@@ -55,12 +55,12 @@ slot_among vs (Const d) = Const d
 abbrev pub atom_among : List ℕ → Pattern → Pattern
 atom_among vs a = record { relation = a.relation; terms = map (slot_among vs) a.terms }
 
--- What stands in the columns of _fix_m: these, or the number 0 where there are none.
+-- The columns of _fix_m: these items, or z if there are none.
 abbrev pub or_zero : {A : Type 0} → A → List A → List A
 or_zero z [] = z ∷ []
 or_zero z (a ∷ as') = a ∷ as'
 
--- That the mapping is to be repaired for these values.
+-- The tuple of _fix_m which says that the mapping must be repaired for these values.
 abbrev pub to_fix : List Datum → Fact
 to_fix ds = record { relation = fix_relation; values = or_zero (Number (pos 0)) ds }
 

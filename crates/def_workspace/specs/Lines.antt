@@ -1,13 +1,13 @@
--- What a log says, line by line: updates with their numbers, answers, what is taken back, and what is declared.
+-- The lines of a log: updates with their numbers, answers, undos and redos, and declarations.
 use Rattle.std.specs.Prelude.{ℕ, List}
 use Rattle.def_chase.specs.Values.{NullName, Datum, Fact}
 use Rattle.def_chase.specs.Mappings.{Rule}
 use Rattle.def_chase.specs.Updates.{Choice}
 
--- Unknowns are spoken of by their names: a `NullName` of attempt 0 is a name where a line has it, of the update that drew the
--- unknown and the place that it has there.
+-- Lines refer to unknowns by names: a `NullName` of attempt 0 in a line is a name, with the update that drew the unknown and the
+-- place that the unknown has in it.
 
--- A value of a line: one that is known there, or the j-th unknown that is new with the line.
+-- A value of a line: a known one, or the j-th unknown that is new with the line.
 pub data Spelled : Type 0 where
   Known : Datum → Spelled
   New : ℕ → Spelled
@@ -17,9 +17,9 @@ pub record SpelledFact : Type 0 where
   pub relation : ℕ
   pub values : List Spelled
 
--- What an update does: insert tuples; delete tuples; put a value for an unknown; put a tuple for another; repair a mapping for
--- these values of the variables on both of its sides; put a mapping in force; or take a mapping away. Mappings have numbers, in
--- the order in which they were declared.
+-- The deed of an update: insert tuples; delete tuples; replace an unknown by a value; replace a tuple by another; repair a
+-- mapping for these values of the variables on both of its sides; put a mapping in force; or take a mapping away. Mappings are
+-- numbered in the order in which they were declared.
 pub data Deed : Type 0 where
   Inserts : List SpelledFact → Deed
   Deletes : List Fact → Deed
@@ -29,37 +29,37 @@ pub data Deed : Type 0 where
   Forces : ℕ → Deed
   Drops : ℕ → Deed
 
--- An update: its number, the steps that each of its ops may make, and what it does.
+-- An update: its number, the number of steps that each of its ops may make, and its deed.
 pub record Update : Type 0 where
   pub number : ℕ
   pub steps : ℕ
   pub deed : Deed
 
--- By what an update asks or draws: the mapping of this number; the hidden one by which it is repaired; or the hidden one that
--- draws new unknowns.
+-- The source of a question or of an unknown: the mapping of this number; the hidden mapping by which it is repaired; or the
+-- hidden mapping that draws new unknowns.
 pub data Source : Type 0 where
   By : ℕ → Source
   Fix : ℕ → Source
   Anew : Source
 
--- Which question it is: its mapping, and the wanted tuple, or the tuples of which some have to go, by names.
+-- A question, identified by its mapping and, by names, the generated tuple or the tuples of which some must be deleted.
 pub record Asked : Type 0 where
   pub source : Source
   pub tuples : List Fact
 
--- An answer: the choice, whose tuples are by names, and the question that it was given to.
+-- An answer: the choice, with tuples by names, and the question to which it was given.
 pub record Given : Type 0 where
   pub choice : Choice
   pub asked : Asked
 
--- A mapping that is declared, with its name and those of its variables.
+-- A mapping that is declared, with its name and the names of its variables.
 pub record Declared : Type 0 where
   pub name : List ℕ
   pub variables : List (List ℕ)
   pub rule : Rule
 
--- A line. An update is said; update n is given an answer, or told to try again; updates are undone, done again, or lose the
--- answers that they had; a mapping is declared. A relation is declared by its name alone as far as this crate goes.
+-- A line: an update is said; update n gets an answer, or tries again; updates are undone, done again, or lose the answers that
+-- they had; or a mapping is declared. Declarations of relations do not matter in this crate.
 pub data Line : Type 0 where
   Says : Update → Line
   Answers : ℕ → Given → Line

@@ -1,4 +1,4 @@
--- Places are given once: the table of an update only grows, and no place of it stands for two causes.
+-- Places are given once: the table of an update only grows, and no place in it is for two causes.
 use Rattle.std.specs.Prelude.{◌≡◌, ℕ, ◌<◌, List, [], ◌∷◌, ◌++◌}
 use Rattle.def_chase.specs.Updates.{Operation}
 use Rattle.def_chase.specs.Violations.{Scope}
@@ -11,12 +11,12 @@ abbrev pub AreRising : ℕ → Places → Type 0
 AreRising m [] = Unit {0}
 AreRising m (p ∷ ps) = (m < p.number) × AreRising p.number ps
 
--- The later table is the earlier one with more behind it.
+-- The later table is the earlier one with more places at its end.
 pub record Grows (ps qs : Places) : Type 0 where
   pub more : Places
   pub all : qs ≡ ps ++ more
 
--- Whatever a run comes to, the table is as it was, with more places behind it; and if its places rose, they rise.
+-- However a run ends, it only adds places to the end of the table, and if the places rose before, they rise after it.
 pub record KeepsPlaces (ps qs : Places) : Type 0 where
   pub grows : Grows ps qs
   pub rise : AreRising 0 ps → AreRising 0 qs

@@ -1,4 +1,4 @@
--- The ops of an update, one behind the other: each is taken whole over what the one before left.
+-- The ops of an update, one after the other: each is taken whole over the repository that the one before left.
 use Rattle.std.specs.Prelude.{ℕ, zero, suc, ◌+◌, if◌then◌else◌, List, [], ◌∷◌, ◌++◌, Option, Some, None}
 use Rattle.def_chase.specs.Values.{NullName, Datum, Number, Text, Unknown, Fact, under}
 use Rattle.def_chase.specs.Repository.{has, apply}
@@ -9,13 +9,13 @@ use Rattle.def_workspace.specs.Hidden.{wanted, found_as, to_fix}
 use Rattle.def_workspace.specs.Places.{greater}
 use Rattle.def_workspace.specs.Runs.{Setting, Thread, Reason, NotThere, Rested, Rests, Halts, run_op}
 
--- An op that was done: its number, what it did, and the choices that it took.
+-- An op that was done: its number, its operation, and the choices that it took.
 pub record Op : Type 0 where
   pub number : ℕ
   pub operation : Operation
   pub choices : List Choice
 
--- How far a run of an update has come: the repository, the number of the last op, what the run keeps, and the ops so far.
+-- The state of a run of an update: the repository, the number of the last op, the thread of the run, and the ops so far.
 pub record Course : Type 0 where
   pub facts : List Fact
   pub last : ℕ
@@ -31,7 +31,7 @@ abbrev pub onto : Going → (Course → Going) → Going
 onto (Goes c) f = f c
 onto (Halted r t) f = Halted r t
 
--- An op that rests leaves its writes.
+-- The run after an op: if the op rests, its writes are made; if it halts, the run halts.
 abbrev pub after_op : Course → Operation → Rested → Going
 after_op c op (Rests P cs t) =
     Goes record {
@@ -42,13 +42,13 @@ after_op c op (Rests P cs t) =
     }
 after_op c op (Halts r t) = Halted r t
 
--- One op more.
+-- The run after one more op.
 abbrev pub take_op : Setting → Operation → Course → Going
 take_op s op c = after_op c op (run_op s c.facts (suc c.last) op c.thread)
 
 -- ---- values
 
--- What a null that an update names is in the repository; its name where it is not there.
+-- The null of the repository for a null that an update names; its name if it is not there.
 pub data Found : Type 0 where
   There : Datum → Found
   Lost : NullName → Found
@@ -62,12 +62,13 @@ found ns D (Number i) = There (Number i)
 found ns D (Text w) = There (Text w)
 found ns D (Unknown u) = found_null D u (null_called ns u)
 
--- A value of a line; a new unknown is the null that the j-th op of the run drew, `first` being the number of the op before.
+-- The value for a value of a line. A new unknown is the null that the j-th op of the run drew; `first` is the number of the op
+-- before the first one.
 abbrev pub found_spelled : ℕ → Names → List Fact → Spelled → Found
 found_spelled first ns D (Known d) = found ns D d
 found_spelled first ns D (New j) = There (Unknown record { update = first + j; attempt = 0; place = 1 })
 
--- All of them, or the first that is not there.
+-- All values, or the first null that is not there.
 pub data AllFound : Type 0 where
   AllThere : List Datum → AllFound
   OneLost : NullName → AllFound
@@ -84,12 +85,12 @@ abbrev pub all_found : {A : Type 0} → (A → Found) → List A → AllFound
 all_found f [] = AllThere []
 all_found f (a ∷ as') = one_found (f a) (all_found f as')
 
--- On with the values, or a halt at the one that is not there.
+-- Goes on with the values, or halts at the null that is not there.
 abbrev pub with_values : Course → AllFound → (List Datum → Going) → Going
 with_values c (AllThere ds) f = f ds
 with_values c (OneLost u) f = Halted (NotThere u) c.thread
 
--- On with the tuples of a line.
+-- Goes on with the tuples of a line, or halts at the first null that is not there.
 abbrev pub with_spelled : ℕ → Course → List SpelledFact → (List Fact → Going) → Going
 with_spelled first c [] f = f []
 with_spelled first c (t ∷ ts) f =
@@ -102,13 +103,13 @@ with_facts c (t ∷ ts) f =
     with_values c (all_found (found c.thread.names c.facts) t.values)
     (λ ds. with_facts c ts (λ us. f (record { relation = t.relation; values = ds } ∷ us)))
 
--- A tuple as what the ops so far made of its values.
+-- The tuple, with the changes that the ops so far made to its values.
 abbrev pub followed : Course → Fact → Fact
 followed c t = under c.thread.moves t
 
 -- ---- parts of updates
 
--- The new unknowns that tuples of a line have.
+-- The number of new unknowns among the values: the greatest j of one.
 abbrev pub new_in : List Spelled → ℕ
 new_in [] = 0
 new_in (Known d ∷ vs) = new_in vs
@@ -118,12 +119,12 @@ abbrev pub new_among : List SpelledFact → ℕ
 new_among [] = 0
 new_among (t ∷ ts) = greater (new_in t.values) (new_among ts)
 
--- n new unknowns are drawn, the first of them number j.
+-- Draws n new unknowns; the first has number j.
 abbrev pub draw : Setting → ℕ → ℕ → Course → Going
 draw s zero j c = Goes c
 draw s (suc n) j c = onto (take_op s (Adds (wanted j)) c) (draw s n (suc j))
 
--- What says of them what they are goes again, `first` being the number of the op before the first of them.
+-- Removes the tuples of _unknown for n new unknowns, from number j on. `first` is the number of the op before the first of them.
 abbrev pub settle : Setting → ℕ → ℕ → ℕ → Course → Going
 settle s first zero j c = Goes c
 settle s first (suc n) j c =
@@ -134,7 +135,7 @@ abbrev pub add_all : Setting → List Fact → Course → Going
 add_all s [] c = Goes c
 add_all s (t ∷ ts) c = onto (take_op s (Adds (followed c t)) c) (add_all s ts)
 
--- A tuple goes if it is there by then.
+-- Deletes the tuple, if it is there at that time.
 abbrev pub remove_one : Setting → Fact → Course → Going
 remove_one s t c = if has c.facts t then take_op s (Removes t) c else Goes c
 
@@ -160,7 +161,7 @@ fill_at s c _ = Goes c
 abbrev pub fill : Setting → NullName → Datum → Course → Going
 fill s u v c = with_values c (all_found (found c.thread.names c.facts) (Unknown u ∷ v ∷ [])) (fill_at s c)
 
--- One tuple comes, and then the other goes, if it is there by then.
+-- Inserts one tuple, and then deletes the other, if it is there at that time.
 abbrev pub swap : Setting → Fact → SpelledFact → Course → Going
 swap s t u c =
     onto (draw s (new_among (u ∷ [])) 1 c)
@@ -169,14 +170,14 @@ swap s t u c =
     (λ ts. onto (add_all s us d)
     (λ e. onto (remove_all s ts e) (settle s c.last (new_among (u ∷ [])) 1)))))
 
--- What says that a mapping is to be repaired comes, and goes as what it is by then.
+-- Inserts the tuple which says that a mapping must be repaired, and then deletes it, with the changes made to its values since.
 abbrev pub fix : Setting → List Datum → Course → Going
 fix s vs c =
     with_values c (all_found (found c.thread.names c.facts) vs)
     (λ ds. onto (take_op s (Adds (to_fix ds)) c)
     (λ d. take_op s (Removes (followed d (to_fix ds))) d))
 
--- The ops of an update. Those that put a mapping in force or take it away are no ops over tuples.
+-- The ops of an update. An update that puts a mapping in force or takes it away has no ops over tuples.
 abbrev pub ops_of : Setting → Deed → Course → Going
 ops_of s (Inserts ts) c = insert_all s ts c
 ops_of s (Deletes ts) c = delete_all s ts c

@@ -1,17 +1,17 @@
--- Which place of its update an unknown has: the table of an update, from what draws an unknown to its place.
+-- The place of an unknown in its update: the table of an update, from the cause of an unknown to its place.
 use Rattle.std.specs.Prelude.{ℕ, suc, ◌==◌, nat_lt, Bool, true, false, not, ◌&&◌, if◌then◌else◌, List, [], ◌∷◌, ◌++◌, Option, Some, None, find}
 use Rattle.std.specs.List.{list_any}
 use Rattle.std.specs.Cmp.Lexicographic.{pointwise}
 use Rattle.def_chase.specs.Values.{Fact, same_fact}
 use Rattle.def_workspace.specs.Lines.{Source, By, Fix, Anew}
 
--- What draws an unknown: a mapping, for its variable of this number, when its left side has this image, by names.
+-- The cause of an unknown: a mapping draws it for its variable of this number, when its left side has this image, by names.
 pub record Cause : Type 0 where
   pub source : Source
   pub variable : ℕ
   pub image : List Fact
 
--- A cause with the place that it has.
+-- A cause with its place.
 pub record Place : Type 0 where
   pub cause : Cause
   pub number : ℕ
@@ -20,7 +20,7 @@ pub record Place : Type 0 where
 abbrev pub Places : Type 0
 Places = List Place
 
--- They are one source.
+-- The two sources are the same.
 abbrev pub same_source : Source → Source → Bool
 same_source (By m) (By n) = m == n
 same_source (By m) (Fix n) = false
@@ -32,11 +32,11 @@ same_source Anew (By n) = false
 same_source Anew (Fix n) = false
 same_source Anew Anew = true
 
--- They are one cause.
+-- The two causes are the same.
 abbrev pub same_cause : Cause → Cause → Bool
 same_cause c d = same_source c.source d.source && (c.variable == d.variable) && pointwise same_fact c.image d.image
 
--- The number is among them.
+-- The number is in the list.
 abbrev pub among : List ℕ → ℕ → Bool
 among ns n = list_any (λ k. k == n) ns
 
@@ -53,7 +53,8 @@ abbrev pub greatest : Places → ℕ
 greatest [] = 0
 greatest (p ∷ ps) = greater p.number (greatest ps)
 
--- The place that a cause is given in a run, and the table then: that of before, or else one more than the greatest.
+-- The place that a cause gets in a run, and the table after that. The place is the cause's old one, or else one more than the
+-- greatest.
 pub record Giving : Type 0 where
   pub number : ℕ
   pub places : Places

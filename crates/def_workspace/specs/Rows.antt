@@ -1,4 +1,4 @@
--- A log worked line by line: what stands after each part of it, as an independent reference has it.
+-- A log worked line by line: the state after each part of it, as an independent reference has it.
 use Rattle.std.specs.Prelude.{◌≡◌, ℕ, List, [], ◌∷◌, ◌++◌, map, pos}
 use Rattle.def_chase.specs.Values.{Datum, Number, Unknown, Fact}
 use Rattle.def_chase.specs.Mappings.{Var}
@@ -47,7 +47,7 @@ asking =
     ∷ says 3 (record { relation = 0; values = Known (num 1) ∷ Known (num 2) ∷ [] } ∷ [])
     ∷ []
 
--- It is; and 4 insert B(?, ?).
+-- The answer is yes; and 4 insert B(?, ?).
 abbrev pub answering : List Line
 answering =
     Answers 3 record { choice = Unify (pair 2 (num 5) (num 6)); asked = record { source = By 0; tuples = pair 2 (called 3 1) (called 3 2) ∷ [] } }
@@ -80,8 +80,8 @@ standing ls = map (λ (s : Standing). s.update.number) (taken_all every begun ls
 abbrev pub waiting : List Line → List ℕ
 waiting ls = map (λ (v : Waiting). v.update.number) (taken_all every begun ls).live.world.waiting
 
--- What waits changes nothing; its answer lets it stand; an unknown is named by its update; and an undo of update 1 lets update 3 draw the
--- unknowns that it had when it asked, by their names.
+-- An update that waits changes nothing; with its answer it stands; an unknown is named by its update; and after an undo of update
+-- 1, update 3 draws the unknowns that it had when it asked, with the same names.
 pub record Worked : Type 0 where
   pub asks : shown asking ≡ pair 2 (num 5) (num 6) ∷ []
   pub waits : waiting asking ≡ 3 ∷ []

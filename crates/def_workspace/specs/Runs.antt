@@ -1,4 +1,4 @@
--- One op taken whole: the steps of the serial machine, with the names of what is drawn and the answers that fit by names.
+-- One op taken whole: the steps of the serial machine, with names for the nulls that it draws, and answers matched by names.
 use Rattle.std.specs.Prelude.{ℕ, zero, suc, Bool, true, false, ◌&&◌, List, [], ◌∷◌, ◌++◌, map, Option, Some, None, find}
 use Rattle.std.specs.Option.{option_map, option_and_then}
 use Rattle.std.specs.List.{slice_get}
@@ -18,12 +18,13 @@ use Rattle.def_workspace.specs.Lines.{Source, Asked, Given}
 use Rattle.def_workspace.specs.Names.{Names, name_of, fact_named}
 use Rattle.def_workspace.specs.Places.{Places, same_source, Giving, giving}
 
--- A mapping in force, with what an unknown that it draws is named by.
+-- A mapping in force, with the source by which its unknowns are named.
 pub record Active : Type 0 where
   pub source : Source
   pub rule : Rule
 
--- What a run is of: the update's number, its budget, and the mappings in force during its ops; and which violations a look counts.
+-- The setting of a run: the violations that a look counts, the update's number, its budget of steps, and the mappings in force
+-- during its ops.
 pub record Setting : Type 0 where
   pub scope : Operation → Scope
   pub number : ℕ
@@ -33,8 +34,8 @@ pub record Setting : Type 0 where
 abbrev pub rules_of : List Active → List Rule
 rules_of as' = map (λ (a : Active). a.rule) as'
 
--- What a run of an update keeps as it goes: the names of nulls, the update's table with the places given in this run, the answers
--- that are left and how many it took, and what became of values.
+-- The thread of a run, which it keeps from op to op: the names of nulls, the update's table and the places given in this run, the
+-- answers that are left, the number of answers taken, and the changes to values.
 pub record Thread : Type 0 where
   pub names : Names
   pub places : Places
@@ -45,7 +46,7 @@ pub record Thread : Type 0 where
 
 -- ---- drawing
 
--- The null at that place of the op gets the name that its cause has.
+-- The null at place k of op seq gets the name of its cause.
 abbrev pub named_by : Giving → ℕ → ℕ → ℕ → Thread → Thread
 named_by g number seq k t =
     record {
@@ -61,13 +62,13 @@ abbrev pub draw_one : ℕ → ℕ → Source → List Fact → ℕ → ℕ → T
 draw_one number seq source image k v t =
     named_by (giving t.places t.given record { source = source; variable = v; image = image }) number seq k t
 
--- The next n nulls of the op, from place k on, are those of the variables from v on.
+-- Names the next n nulls of the op, from place k on, which are of the variables from v on.
 abbrev pub draw_from : ℕ → ℕ → Source → List Fact → ℕ → ℕ → ℕ → Thread → Thread
 draw_from number seq source image zero k v t = t
 draw_from number seq source image (suc n) k v t =
     draw_from number seq source image n (suc k) (suc v) (draw_one number seq source image k v t)
 
--- The repair that a phase is at.
+-- The repair of a phase that generates.
 abbrev pub repair_at : Phase → Option Repair
 repair_at Start = None
 repair_at Look = None
@@ -75,7 +76,7 @@ repair_at (Generate r) = Some r
 repair_at (AskedAt q) = None
 repair_at (Ended o) = None
 
--- By the mapping of the repair, if there is one of that number, n nulls are drawn behind the first k.
+-- Names the n nulls after the first k, drawn by the mapping of the repair, if there is one.
 abbrev pub drawn_by : ℕ → ℕ → ℕ → ℕ → List Datum → Option Active → Thread → Thread
 drawn_by number seq n k ds None t = t
 drawn_by number seq n k ds (Some a) t =
@@ -85,7 +86,7 @@ abbrev pub drawn_at : Setting → ℕ → ℕ → ℕ → Option Repair → Thre
 drawn_at s seq n k None t = t
 drawn_at s seq n k (Some r) t = drawn_by s.number seq n k r.binding (slice_get s.active r.mapping) t
 
--- What a step of the attempt drew by this move is named, by the mapping, its variables, and the image of its left side.
+-- Names the nulls that a step of the attempt drew by this move: by the mapping, its variables, and the image of its left side.
 abbrev pub drawn : Setting → Attempt → Move → Thread → Thread
 drawn s P m t = drawn_at s P.number m.drawn P.nulls (repair_at m.phase) t
 
@@ -94,7 +95,7 @@ drawn s P m t = drawn_at s P.number m.drawn P.nulls (repair_at m.phase) t
 abbrev pub source_at : List Active → ℕ → Option Source
 source_at as' n = option_map (λ (a : Active). a.source) (slice_get as' n)
 
--- Which question it is, by names.
+-- The identity of the question, by names.
 abbrev pub asked_by : List Active → Names → Question → Option Asked
 asked_by as' ns (Positive r t cs) = option_map (λ s. record { source = s; tuples = fact_named ns t ∷ [] }) (source_at as' r.mapping)
 asked_by as' ns (Negative n ts) = option_map (λ s. record { source = s; tuples = map (fact_named ns) ts }) (source_at as' n)
@@ -102,16 +103,16 @@ asked_by as' ns (Negative n ts) = option_map (λ s. record { source = s; tuples 
 abbrev pub same_asked : Asked → Asked → Bool
 same_asked p q = same_source p.source q.source && pointwise same_fact p.tuples q.tuples
 
--- The tuple of that name among these.
+-- The tuple among these that is o by names.
 abbrev pub called : Names → List Fact → Fact → Option Fact
 called ns ts o = find (λ t. same_fact (fact_named ns t) o) ts
 
--- All of them, if all are there.
+-- The tuples among these that are the tuples os by names, if all are there.
 abbrev pub all_called : Names → List Fact → List Fact → Option (List Fact)
 all_called ns ts [] = Some []
 all_called ns ts (o ∷ os) = option_and_then (λ t. option_map (λ us. t ∷ us) (all_called ns ts os)) (called ns ts o)
 
--- At least one of them.
+-- The tuples among these that are the tuples os by names, if all are there and os has at least one.
 abbrev pub some_called : Names → List Fact → List Fact → Option (List Fact)
 some_called ns ts [] = None
 some_called ns ts (o ∷ os) = all_called ns ts (o ∷ os)
@@ -142,14 +143,14 @@ abbrev pub rest_of : {A : Type 0} → List A → List A
 rest_of [] = []
 rest_of (a ∷ as') = as'
 
--- What an answer moves: a unifier's values. Others move none.
+-- The change that an answer makes to values: `Unify` applies the unifier, other answers change nothing.
 abbrev pub moved_by : Question → Choice → Datum → Datum
 moved_by (Positive r t cs) Expand d = d
 moved_by (Positive r t cs) (Unify o) d = unifier t (candidate t cs o) d
 moved_by (Positive r t cs) (Drop os) d = d
 moved_by (Negative n ts) c d = d
 
--- The answer is taken.
+-- The thread after the answer is taken.
 abbrev pub answered : Question → Choice → Thread → Thread
 answered q c t =
     record {
@@ -163,8 +164,9 @@ answered q c t =
 
 -- ---- an op
 
--- Why an update does not stand: it asks, an unknown that it names is not there, its steps do not suffice, the mapping that it puts in
--- force has violations, or the mapping is gone. A question tells its tuples: the candidates, or those of which some have to go.
+-- Why an update does not stand: it asks, an unknown that it names is not there, its steps do not suffice, the mapping that it
+-- puts in force has violations, or the mapping is gone. A question has its tuples: the candidates, or the tuples of which some
+-- must be deleted.
 pub data Reason : Type 0 where
   Asks : Question → Asked → List Fact → Reason
   NotThere : NullName → Reason
@@ -177,11 +179,11 @@ pub data Rested : Type 0 where
   Rests : Attempt → List Choice → Thread → Rested
   Halts : Reason → Thread → Rested
 
--- The move of the attempt's next step over D, by this answer if it waits for one.
+-- The move of the attempt's next step over D, with this answer if it waits for one.
 abbrev pub move_by : Setting → List Fact → Attempt → Option Choice → Move
 move_by s D P c = result_of (λ q. value (rules_of s.active) q D P.own (s.scope P.operation)) (step (rules_of s.active) P c)
 
--- The attempt after that step.
+-- The attempt after its next step over D, with this answer if it waits for one.
 abbrev pub next : Setting → List Fact → Attempt → Option Choice → Attempt
 next s D P c = moved s.steps P (move_by s D P c)
 
@@ -193,7 +195,7 @@ abbrev pub asks : Names → Question → Option Asked → Reason
 asks ns q None = TooLong
 asks ns q (Some a) = Asks q a (map (fact_named ns) (tuples_in q))
 
--- On to the next state by an answer, or a halt for want of one.
+-- Goes on to the next state with an answer, or halts if there is none.
 abbrev pub by_choice : Setting → List Fact → (Attempt → List Choice → Thread → Rested) → Attempt → Question → List Choice → Thread → Option Choice → Rested
 by_choice s D go P q cs t None = Halts (asks t.names q (asked_by s.active t.names q)) t
 by_choice s D go P q cs t (Some c) =
@@ -214,12 +216,12 @@ by_phase s D go P cs t (Generate r) = onward s D go P cs t
 by_phase s D go P cs t (AskedAt q) = by_choice s D go P q cs t (fitting s.active t.names q t.answers)
 by_phase s D go P cs t (Ended o) = at_end P cs t o
 
--- At most k steps over D. With all its steps made an attempt has ended, so that none is left over.
+-- At most k steps over D. An attempt that has made all its steps has ended, so none is left over.
 abbrev pub run : Setting → List Fact → ℕ → Attempt → List Choice → Thread → Rested
 run s D zero P cs t = by_phase s D (λ Q ds u. Halts TooLong u) P cs t P.phase
 run s D (suc k) P cs t = by_phase s D (λ Q ds u. run s D k Q ds u) P cs t P.phase
 
--- What an operation itself moves: a replacement its unknown.
+-- The change that an operation itself makes to values: a replacement replaces its unknown.
 abbrev pub moved_first : Operation → Datum → Datum
 moved_first (Adds t) d = d
 moved_first (Removes t) d = d
@@ -237,6 +239,6 @@ begun_with op t =
       moves = λ d. moved_first op (t.moves d);
     }
 
--- The operation taken whole over D as op number seq.
+-- The operation taken whole over D, as op number seq.
 abbrev pub run_op : Setting → List Fact → ℕ → Operation → Thread → Rested
 run_op s D seq op t = run s D s.steps (begun seq 0 op) [] (begun_with op t)

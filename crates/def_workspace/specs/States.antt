@@ -1,4 +1,4 @@
--- What a log stands for: the state, and what each line does to it.
+-- The state that a log stands for, and the effect of each line.
 use Rattle.std.specs.Prelude.{ℕ, suc, ◌==◌, Bool, true, false, not, ◌&&◌, if◌then◌else◌, List, [], ◌∷◌, ◌++◌, map, filter, take, Option, Some, None, find, unwrap_or}
 use Rattle.std.specs.Option.{option_map}
 use Rattle.std.specs.Cmp.Lexicographic.{pointwise}
@@ -24,12 +24,12 @@ with_table (t ∷ ts) n ps = if t.number == n then record { number = n; places =
 
 -- ---- lines that run
 
--- What stands, and the tables of all updates.
+-- The world, and the tables of all updates.
 pub record Live : Type 0 where
   pub world : World
   pub tables : List Table
 
--- After a run of the update with these answers.
+-- The state after a run of the update with these answers.
 abbrev pub after_run : Live → Update → List Given → Ran → Live
 after_run l u gs r = record { world = settled l.world u gs r; tables = with_table l.tables u.number (places_of r) }
 
@@ -40,8 +40,8 @@ run_in scope ds l u gs = run_update scope ds l.world (table_of l.tables u.number
 abbrev pub said : (Operation → Scope) → List Declared → Live → Update → Live
 said scope ds l u = after_run l u [] (run_in scope ds l u [])
 
--- An update that waits runs again with the answers that the first run took, and then this one, if there is one. An answer is taken
--- if the first run asks its question; that run writes no names.
+-- An update that waits runs again, with the answers that the first run took, and then this one, if there is one. An answer is
+-- taken if the first run asks its question; that run writes no names.
 abbrev pub retried : (Operation → Scope) → List Declared → Live → Update → List Given → Live
 retried scope ds l u gs = after_run l u gs (run_in scope ds l u gs)
 
@@ -57,7 +57,7 @@ abbrev pub gone_at : (Operation → Scope) → List Declared → Live → Option
 gone_at scope ds l None = l
 gone_at scope ds l (Some v) = retried scope ds l v.update (take (taken_of (run_in scope ds l v.update v.answers)) v.answers)
 
--- What a line that counts does to what stands.
+-- The effect of a line that counts on the world and the tables.
 abbrev pub done_by : (Operation → Scope) → List Declared → Live → Line → Live
 done_by scope ds l (Says u) = said scope ds l u
 done_by scope ds l (Answers n g) = answered_at scope ds l g (waiting_at l.world n)
@@ -69,9 +69,9 @@ done_by scope ds l (Declares d) = l
 
 -- ---- the state
 
--- What stood at the last fold; the lines since then, the updates that are undone, and the places of the answers that were taken
--- back, as well as the updates that lost the answers which they had at the fold; the mappings that are declared; the greatest number of
--- an update; and what stands.
+-- The state of a log. It has the world at the last fold, the lines since then, and the updates that are undone. Then come the
+-- places of the answers that were taken back, and the updates that lost the answers which they had at the fold. Last come the
+-- declared mappings, the greatest number of an update, and the world and tables now.
 pub record State : Type 0 where
   pub base : World
   pub lines : List Line
@@ -92,7 +92,7 @@ counts S k (Redoes ns) = true
 counts S k (Forgets ns) = true
 counts S k (Declares d) = true
 
--- What waited at the last fold and is not undone, with its answers unless they were taken back.
+-- The updates that waited at the last fold and are not undone, with their answers unless these were taken back.
 abbrev pub waited : State → List Waiting → List Waiting
 waited S vs =
     map (λ (v : Waiting). record { update = v.update; answers = if among S.cleared v.update.number then [] else v.answers })
@@ -110,7 +110,7 @@ abbrev pub done_by_all : (Operation → Scope) → List Declared → Live → Li
 done_by_all scope ds v [] = v
 done_by_all scope ds v (l ∷ ls) = done_by_all scope ds (done_by scope ds v l) ls
 
--- The replay: all lines that count, from what stood at the last fold.
+-- The replay: all lines that count, from the world at the last fold on.
 abbrev pub replayed : (Operation → Scope) → State → Live
 replayed scope S = done_by_all scope S.declared (first_live S) (counting S 0 S.lines)
 
@@ -123,7 +123,7 @@ with_live S l =
 abbrev pub replay : (Operation → Scope) → State → State
 replay scope S = with_live S (replayed scope S)
 
--- The line is in the log.
+-- The state with the line added to the log.
 abbrev pub logged : State → Line → State
 logged S l =
     record { base = S.base; lines = S.lines ++ l ∷ []; undone = S.undone; forgotten = S.forgotten; cleared = S.cleared; declared = S.declared; last = S.last; live = S.live }
@@ -136,7 +136,7 @@ abbrev pub with_undone : State → List ℕ → State
 with_undone S ns =
     record { base = S.base; lines = S.lines; undone = ns; forgotten = S.forgotten; cleared = S.cleared; declared = S.declared; last = S.last; live = S.live }
 
--- The places of the answers to these updates.
+-- The line is an answer to one of these updates, or a further try of one.
 abbrev pub is_answer_to : List ℕ → Line → Bool
 is_answer_to ns (Answers n g) = among ns n
 is_answer_to ns (Goes n) = among ns n
@@ -163,7 +163,7 @@ forgetting S ns =
       live = S.live;
     }
 
--- A mapping is declared, anew if there is one of that name.
+-- The mappings after a declaration, which replaces a mapping with the same name.
 abbrev pub declaring : List Declared → Declared → List Declared
 declaring [] d = d ∷ []
 declaring (e ∷ es) d = if pointwise (λ a b. a == b) e.name d.name then d ∷ es else e ∷ declaring es d
@@ -172,7 +172,7 @@ abbrev pub with_declared : State → List Declared → State
 with_declared S ds =
     record { base = S.base; lines = S.lines; undone = S.undone; forgotten = S.forgotten; cleared = S.cleared; declared = ds; last = S.last; live = S.live }
 
--- What a line does to the state.
+-- The effect of a line on the state.
 abbrev pub taken : (Operation → Scope) → State → Line → State
 taken scope S (Says u) = with_live (numbered (logged S (Says u)) u.number) (done_by scope S.declared S.live (Says u))
 taken scope S (Answers n g) = with_live (logged S (Answers n g)) (done_by scope S.declared S.live (Answers n g))
@@ -182,7 +182,7 @@ taken scope S (Redoes ns) = replay scope (with_undone (logged S (Redoes ns)) (fi
 taken scope S (Forgets ns) = replay scope (forgetting (logged S (Forgets ns)) ns)
 taken scope S (Declares d) = with_declared (logged S (Declares d)) (declaring S.declared d)
 
--- What a log does, line by line.
+-- The effect of a log, line by line.
 abbrev pub taken_all : (Operation → Scope) → State → List Line → State
 taken_all scope S [] = S
 taken_all scope S (l ∷ ls) = taken_all scope (taken scope S l) ls

@@ -1,5 +1,5 @@
--- What stands: the repository, the mappings in force, the order of the updates that stand, and those that wait; and what a run of an
--- update makes of it.
+-- The world: the repository, the mappings in force, the updates that stand in their order, and the updates that wait; and the
+-- effect of a run of an update.
 use Rattle.std.specs.Prelude.{ℕ, zero, suc, ◌==◌, Bool, true, false, not, ◌||◌, if◌then◌else◌, List, [], ◌∷◌, ◌++◌, filter, take, Option, Some, None, is_none, find}
 use Rattle.std.specs.List.{flat_map, slice_get}
 use Rattle.def_chase.specs.Values.{Fact}
@@ -23,8 +23,8 @@ pub record Waiting : Type 0 where
   pub update : Update
   pub answers : List Given
 
--- The repository, the number of the last op, the names of all nulls, the mappings in force in their order and those that are
--- gone, the updates that stand in their order, and those that wait.
+-- The world: the repository, the number of the last op, the names of all nulls, the mappings in force in their order and those
+-- that are gone, the updates that stand in their order, and the updates that wait.
 pub record World : Type 0 where
   pub facts : List Fact
   pub last : ℕ
@@ -40,7 +40,7 @@ abbrev pub active_by : ℕ → Option Declared → List Active
 active_by m None = []
 active_by m (Some d) = record { source = By m; rule = d.rule } ∷ []
 
--- The mappings in force, of those that are declared.
+-- The declared mappings that are in force.
 abbrev pub active_in : List Declared → List ℕ → List Active
 active_in ds ms = flat_map (λ m. active_by m (slice_get ds m)) ms
 
@@ -52,7 +52,7 @@ abbrev pub fixing : ℕ → Option Declared → List Active
 fixing m None = []
 fixing m (Some d) = record { source = Fix m; rule = fixing_rule d.rule } ∷ []
 
--- The hidden mappings of an update, which are in force during its ops alone.
+-- The hidden mappings of an update, which are in force only during its ops.
 abbrev pub hidden : List Declared → Deed → List Active
 hidden ds (Inserts ts) = drawing (new_among ts)
 hidden ds (Deletes ts) = []
@@ -64,8 +64,8 @@ hidden ds (Drops m) = []
 
 -- ---- a run
 
--- What a run comes to: done, with what stands then; or not, and then why. Either way it tells the update's table, and how many answers
--- it took.
+-- The end of a run: done, with the world after it; or not done, with the reason. Either way it has the update's table and the
+-- number of answers taken.
 pub data Ran : Type 0 where
   Done : World → Places → ℕ → Ran
   Left : Reason → Places → ℕ → Ran
@@ -87,7 +87,7 @@ begun w ps gs =
       ops = [];
     }
 
--- The update stands, and waits no more.
+-- The world in which the update stands, and waits no more.
 abbrev pub with_order : World → Standing → World
 with_order w s =
     record {
@@ -107,11 +107,11 @@ ended w u gs (Goes c) =
     c.thread.places c.thread.taken
 ended w u gs (Halted r t) = Left r t.places t.taken
 
--- The mapping is put in force, behind the others, as an op of its own.
+-- The world with the mapping put in force after the others, as an op of its own.
 abbrev pub enacted : World → ℕ → World
 enacted w m = record { facts = w.facts; last = suc w.last; names = w.names; in_force = w.in_force ++ m ∷ []; gone = w.gone; order = w.order; waiting = w.waiting }
 
--- It is taken away.
+-- The world with the mapping taken away.
 abbrev pub dropped : World → ℕ → World
 dropped w m =
     record {
@@ -138,7 +138,7 @@ force_in ds w ps u m =
     else if is_met w.facts (slice_get ds m) then Done (with_order (enacted w m) record { update = u; answers = []; ops = enact_op w m }) ps 0
     else Left (Violated m) ps 0
 
--- The mapping that an update speaks of, if it is gone.
+-- The mapping of an update's deed, if it is gone.
 abbrev pub is_of_gone : World → Deed → Option ℕ
 is_of_gone w (Inserts ts) = None
 is_of_gone w (Deletes ts) = None
@@ -168,13 +168,13 @@ abbrev pub unless_gone : Option ℕ → Places → Ran → Ran
 unless_gone None ps r = r
 unless_gone (Some m) ps r = Left (Gone m) ps 0
 
--- The update run over what stands, with these answers.
+-- The run of the update over the world, with these answers.
 abbrev pub run_update : (Operation → Scope) → List Declared → World → Places → Update → List Given → Ran
 run_update scope ds w ps u gs = unless_gone (is_of_gone w u.deed) ps (run_deed scope ds w ps u gs u.deed)
 
 -- ---- what waits
 
--- What waits for a mapping that is gone, or to put one in force that is in force, is given up.
+-- An update is given up if it waits for a mapping that is gone, or to put a mapping in force that is in force already.
 abbrev pub is_given_up : World → Deed → Bool
 is_given_up w (Inserts ts) = false
 is_given_up w (Deletes ts) = false
@@ -190,12 +190,12 @@ with_waiting w vs = record { facts = w.facts; last = w.last; names = w.names; in
 abbrev pub swept : World → World
 swept w = with_waiting w (filter (λ (v : Waiting). not (is_given_up w v.update.deed)) w.waiting)
 
--- The update waits with these answers: in its place if it waited, else as the last.
+-- The update waits with these answers: in its place if it waited before, otherwise as the last.
 abbrev pub waits_with : List Waiting → Update → List Given → List Waiting
 waits_with [] u gs = record { update = u; answers = gs } ∷ []
 waits_with (v ∷ vs) u gs = if v.update.number == u.number then record { update = u; answers = gs } ∷ vs else v ∷ waits_with vs u gs
 
--- After a run what stands: that of the run if the update is done, else what stood, and the update waits.
+-- The world after a run: the run's if the update is done, otherwise the old one, in which the update waits.
 abbrev pub settled : World → Update → List Given → Ran → World
 settled w u gs (Done v ps n) = swept v
 settled w u gs (Left r ps n) = swept (with_waiting w (waits_with w.waiting u gs))
@@ -204,7 +204,7 @@ settled w u gs (Left r ps n) = swept (with_waiting w (waits_with w.waiting u gs)
 abbrev pub waiting_at : World → ℕ → Option Waiting
 waiting_at w n = find (λ (v : Waiting). v.update.number == n) w.waiting
 
--- The run is at this question.
+-- The run stopped at this question.
 abbrev pub asks_it : Ran → Asked → Bool
 asks_it (Done w ps n) q = false
 asks_it (Left (Asks p a ts) ps n) q = same_asked a q

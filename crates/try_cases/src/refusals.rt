@@ -18,6 +18,9 @@ pub enum CaseRefusal {
     /// The output did not take the whole text.
     #[error("write fault")]
     Output,
+    /// The base of the session violates a mapping.
+    #[error("the base violates a mapping")]
+    Base,
     /// The calls of the case have no end.
     #[error("the calls have no end")]
     Endless,

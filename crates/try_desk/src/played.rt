@@ -10,7 +10,7 @@ use crate::scripts::{Script, read_script};
 use audit_trace::trace_text;
 use base_limits::Budget;
 use base_types::Memory;
-use core_engine::Core;
+use core_engine::{Core, OpenRefusal};
 use core_queue::Settings;
 use lang_report::result_text;
 use lang_session::Session;
@@ -69,6 +69,23 @@ fn scripted<R: Wait>(
     script.told(alloc, &session.schema, core.history())
 }
 
+// The core of the session.
+fn opened<'s>(
+    alloc: Global,
+    session: &'s Session,
+    settings: Settings,
+    budget: Budget,
+) -> Result<Core<'s>, CaseRefusal>
+    requires valid { IsSession (session_of session.now) }
+    requires retries { settings.retries ≤ 4 }
+{
+    match Core::open(alloc, session, settings, budget) {
+        Ok(core) => Ok(core),
+        Err(OpenRefusal::Violates(_)) => Err(CaseRefusal::Base),
+        Err(OpenRefusal::Memory) => Err(CaseRefusal::Memory),
+    }
+}
+
 // The core of the session, as the desk over it gives it back after its seats came as the lead says.
 fn ended<'s, R: Wait, L: Lead>(
     rt: &R,
@@ -81,7 +98,7 @@ fn ended<'s, R: Wait, L: Lead>(
     requires valid { IsSession (session_of session.now) }
     requires retries { settings.retries ≤ 4 }
 {
-    let core = Core::open(alloc, session, settings, budget)?;
+    let core = opened(alloc, session, settings, budget)?;
     core.is_legal();
     let seated = Seated::new(core, Answers::Last);
     let (seated, result) = play(rt, alloc, seated, lead);

@@ -12,8 +12,8 @@ mod judging;
 
 use crate::judging::table;
 use base_types::Memory;
-use cmd_plain::base_violation;
 use lang_reader::{ReadFailure, read_session};
+use run_base::base_violation;
 use run_serial::base_of;
 use std::alloc::Global;
 

@@ -1,53 +1,54 @@
-// What a worker works at.
+// Benches, from which workers get tickets.
 
 use def_memory::Memory;
 use std::sync::Wait;
 use std::time::Clock;
 
-/// What a bench answers to a worker that asks for work.
+/// The answer of a bench to a worker that asks for work.
 pub enum Offer<T> {
     /// A ticket, which the worker has to finish or give back.
     Ticket(T),
-    /// What there was to do the call did. It only tells a worker whether more may be had in this way.
+    /// The call did the work itself. `more` is a hint for the worker whether the next call may do more.
     Moved { more: bool },
-    /// There is nothing to do now, but a ticket of another seat may bring something.
+    /// There is nothing to do now, but a ticket of another seat may bring new work.
     Idle,
     /// Nothing is left to do.
     Quiet,
 }
 
-/// How a bench received a plan. It only tells a worker whether going on at once is worth it.
+/// How a bench received a plan: a hint for the worker whether it is worth going on at once.
 pub enum Received {
-    /// What the plan says was done.
+    /// The plan was carried out.
     InTime,
-    /// It was worked out from what has changed since, so nothing was done.
+    /// The plan was made from something that has changed since, so nothing was done.
     Stale,
 }
 
 /// Work that several seats share.
 ///
-/// The meaning of a bench is given by members that exist in contracts alone. A seat keeps its lock and number, what it has seen only grows at its end, and each ticket that it was given is spent once, by `finish` or `give_back`.
+/// The meaning of a bench is given by members that exist only in contracts. A seat keeps its lock and its number. The list of
+/// what it has seen only grows at its end. Each ticket that it was given is spent once, by `finish` or `give_back`.
 pub trait Bench {
     ghost use Rattle.std.specs.Prelude.{◌≡◌, ◌+◌, ℕ, List, IfOk, IfErr};
     ghost use mathlib.Core.List.{IsPrefix};
     ghost use Rattle.work_loop.specs.Offers.{IfTicket, IfQuiet, tickets_in, tickets_spent};
 
-    /// A place at the bench, from which one worker works.
+    /// What one worker holds to work at the bench.
     type Seat;
 
-    /// One piece of work. It need not be `Drop`: then no ticket can be dropped.
+    /// One piece of work. If the type is not `Drop`, no ticket can be dropped.
     type Ticket;
 
-    /// What is worked out for a ticket. Where `finish` fails the plan is dropped.
+    /// The plan of a ticket's work. If `finish` fails the plan is dropped.
     type Plan;
 
-    /// What the identity of a seat's lock is.
+    /// The type of the identity of a seat's lock.
     ghost Lock: { Type 0 };
 
-    /// What the list that a seat has seen consists of.
+    /// The type of the items that a seat has seen.
     ghost Mark: { Type 0 };
 
-    /// The seat is the bench's own.
+    /// The seat belongs to the bench.
     ghost owns: { Self → Self.Seat → Type 0 };
 
     /// The seat's lock.
@@ -56,13 +57,13 @@ pub trait Bench {
     /// The seat's number.
     ghost seat_number: { Self.Seat → ℕ };
 
-    /// What the seat has seen.
+    /// The list of what the seat has seen.
     ghost seen: { Self.Seat → List Mark };
 
-    /// How many tickets the seat was given.
+    /// The number of tickets that the seat was given.
     ghost given: { Self.Seat → ℕ };
 
-    /// How many tickets the seat has finished or given back.
+    /// The number of tickets that the seat has finished or given back.
     ghost spent: { Self.Seat → ℕ };
 
     /// The ticket is out for the seat.
@@ -74,8 +75,8 @@ pub trait Bench {
     /// The seat is at rest: nothing is left to do, as far as it has seen.
     ghost rests: { Self.Seat → Type 0 };
 
-    /// Looks for work, of which the bench may do up to `most` small pieces itself: a ticket that it takes for one of these is spent at
-    /// once. A ticket that it answers is out for the seat, and after `Quiet` the seat is at rest.
+    /// Looks for work. The bench may do up to `most` small pieces itself, and spends the ticket of each at once. A ticket that it
+    /// returns is out for the seat, and after `Quiet` the seat is at rest.
     fn offer<R: Wait + Clock>(
         &self,
         rt: &R,
@@ -95,11 +96,12 @@ pub trait Bench {
     /// The ticket's number, for the gate.
     fn number(&self, ticket: &Self::Ticket) -> u64;
 
-    /// Works out the ticket's plan, without the bench's lock.
+    /// Makes the ticket's plan, outside the bench's lock.
     fn evaluate(&self, ticket: &Self::Ticket) -> Result<Self::Plan, Memory>
         ensures plan { IfOk result (is_plan ticket.now) };
 
-    /// Hands the plan in, which spends the ticket, and tells how it was received. On `Memory` the ticket comes back and is out still.
+    /// Hands the plan in, which spends the ticket, and returns how it was received. On `Memory` the ticket comes back and is
+    /// still out.
     fn finish<R: Wait>(
         &self,
         rt: &R,

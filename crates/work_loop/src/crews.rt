@@ -12,10 +12,9 @@ use std::thread;
 use std::thread::Threads;
 use std::time::Clock;
 
-/// Lets a worker work from each of the seats until nothing is left to do, each in a thread of its own, and gives the seats
-/// back in their order. As many of them are at work at once as there are processors for them, but two at least. Where no
-/// thread can be made the calling thread works in its place. On Ok each seat is at rest; `Memory` comes where a worker,
-/// or the crew itself, had no memory.
+/// Runs a worker for each seat, each in a thread of its own, until nothing is left to do. The seats come back in order. As many
+/// workers are active at the same time as there are processors, but at least two. If a thread cannot be made, the calling thread
+/// works in its place. On Ok each seat is at rest; `Memory` means that a worker, or the crew itself, had no memory.
 pub fn work_all<
     R: Threads + Wait + Clock + Sync,
     G: Gate + Sync,
@@ -41,7 +40,7 @@ pub fn work_all<
     (back, result)
 }
 
-// A worker for each seat.
+// Makes a worker for each seat.
 fn hire<S: Drop>(seats: Vec<S>, workers: &mut Vec<Worker<S>>)
     requires empty { workers.old.items ≡ [] }
     requires room { vec_len seats ≤ vec_capacity workers.old }
@@ -55,7 +54,7 @@ fn hire<S: Drop>(seats: Vec<S>, workers: &mut Vec<Worker<S>>)
     }
 }
 
-// Lets each worker work in a thread of its own.
+// Runs each worker in a thread of its own.
 fn attend<R: Threads + Wait + Clock + Sync, G: Gate + Sync, S: Send, B: Bench<Seat = S> + Sync>(
     rt: &R,
     bench: &B,
@@ -80,7 +79,7 @@ fn attend<R: Threads + Wait + Clock + Sync, G: Gate + Sync, S: Send, B: Bench<Se
     );
 }
 
-// The seats of the workers. It is Ok only where each worker answered Ok.
+// Takes the seats of the workers. The result is Ok only if each worker returned Ok.
 fn dismiss<S: Drop>(workers: Vec<Worker<S>>, seats: &mut Vec<S>) -> Result<(), Memory>
     requires empty { seats.old.items ≡ [] }
     requires room { vec_len workers ≤ vec_capacity seats.old }

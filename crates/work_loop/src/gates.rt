@@ -1,6 +1,7 @@
 // Gates, which a worker passes around each ticket's work.
 
-/// What a worker passes before it works at a ticket and after the ticket is finished. A gate may hold the worker for a while; it has no say in what the work does.
+/// A point that a worker passes before it works at a ticket, and again after the ticket is finished. A gate may hold the worker
+/// for a while, but it does not change what the work does.
 pub trait Gate {
     /// Called with the ticket's number before the ticket is evaluated.
     fn enter(&self, call: u64);

@@ -1,6 +1,8 @@
 //! The loop of a worker over any bench, and the gates that can hold it.
 //!
-//! A bench hands out tickets; a worker, with a seat of its own, takes one, works out its plan without the bench, and hands the plan in. `Bench` says what such a bench promises, `work` is the loop of one worker, a `Gate` is passed before and after each ticket's work, and `Places` say how many workers are at work at once.
+//! A bench hands out tickets. A worker, with a seat of its own, takes a ticket, makes its plan without the bench, and hands the
+//! plan in. `Bench` says what a bench promises, and `work` is the loop of one worker. A `Gate` is passed before and after each
+//! ticket's work, and `Places` limit how many workers are active at the same time.
 #![tactic(auto)]
 
 mod bench;

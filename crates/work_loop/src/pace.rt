@@ -1,22 +1,23 @@
-// How many pieces of small work a worker lets its bench do at once.
+// The number of small pieces of work that a worker lets its bench do at once.
 ghost use Rattle.std.specs.Prelude.{◌≡◌, ◌≤◌, false};
 
 use std::marker::Model;
 
-// So many pieces in a row have to be small, at first, before the bench is let.
+// The number of small pieces in a row that are required, at first, before the bench may do pieces itself.
 const ROW: u64 = 2;
 
-// The longest row that is wanted.
+// The longest row that is ever required.
 const LONGEST: u64 = 64;
 
-// How many the bench then does at first.
+// The number of pieces that the bench may do itself, at first.
 const FIRST: u64 = 4;
 
-// How many at most.
+// The greatest number of pieces that the bench may do itself.
 const MOST: u64 = 64;
 
-/// What a worker has found of late; contracts see how many pieces the bench may do now. Where some pieces in a row were small the bench does them itself, ever more of them at once. Where
-/// it was let in vain a row of twice the length is wanted before it is let again, so that large pieces are hardly ever done by the bench.
+/// The sizes of a worker's latest pieces of work; contracts see the number of pieces that the bench may do now. After enough
+/// small pieces in a row the bench does pieces itself, more and more at once. If that does not help, a row of twice the length is
+/// required before the bench may do so again. So the bench hardly ever does large pieces.
 #[derive(Drop)]
 pub(crate) struct Pace {
     most: u64,
@@ -47,7 +48,7 @@ impl Pace {
         }
     }
 
-    /// How many pieces the bench may do now.
+    /// The number of pieces that the bench may do now.
     pub(crate) fn most(&self) -> u64
         ensures now { result ≡ self.now }
         ensures few { result ≤ 64 }
@@ -55,7 +56,7 @@ impl Pace {
         self.most
     }
 
-    /// The worker has worked out a piece, and it was small, or not.
+    /// Notes that the worker made a plan itself, and whether the piece was small.
     pub(crate) fn planned(&mut self, small: bool)
         ensures large { small ≡ false → self.new ≡ 0 }
     {
@@ -67,7 +68,7 @@ impl Pace {
         };
     }
 
-    /// The bench has moved, and there may be more at once, or not.
+    /// Notes that the bench did pieces itself, and whether more may be had at once.
     pub(crate) fn moved(&mut self, more: bool)
         ensures last { more ≡ false → self.new ≡ 0 }
     {

@@ -1,4 +1,4 @@
-// How many workers are at work at once.
+// The number of workers that are active at the same time.
 
 ghost use Rattle.std.specs.Prelude.{◌≤◌};
 
@@ -8,9 +8,10 @@ use std::thread::{Threads, available_parallelism};
 // The fewest places: two workers can always meet.
 const FEWEST: u64 = 2;
 
-/// Places to work at: as many as there are processors for the program's threads, but two at least. A worker takes one for each look for
-/// work and what follows from it, and without one it sleeps for a while. So workers who have no processor do not wait for the lock in
-/// front of those who have one, nor hold tickets whose plans come too late. No clause depends on it.
+/// Places for active workers: as many as there are processors for the program's threads, but at least two. A worker takes a place
+/// for each look for work and the work that follows; if none is free it sleeps for a while. So a worker without a processor
+/// neither waits for the lock ahead of a worker with one, nor holds a ticket whose plan comes too late. No clause depends on the
+/// places.
 #[derive(Drop)]
 pub struct Places {
     most: u64,
@@ -32,7 +33,7 @@ impl Places {
         }
     }
 
-    /// Takes a place, if one is free. It is to be left again.
+    /// Takes a place, if one is free. The place must be left again.
     pub(crate) fn take(&self) -> bool {
         if self.taken.fetch_add(1, Ordering::SeqCst) < self.most {
             return true;

@@ -1,4 +1,4 @@
-// How a worker passes the time when it gains nothing by going on at once.
+// The naps of a worker that gains nothing by going on at once.
 ghost use Rattle.std.specs.Prelude.{◌≡◌, ◌≤◌, ◌+◌, min};
 
 use crossbeam_utils::Backoff;
@@ -10,11 +10,12 @@ use std::time::Duration;
 // The shortest nap, in microseconds. Each further one is twice as long, up to a millisecond.
 const NAP_MICROS: u64 = 16;
 
-// How often a nap is doubled at most.
+// The greatest number of times that a nap is doubled.
 const DOUBLINGS: u32 = 6;
 
-/// What a worker has done in vain since it last did something of use; contracts see how often its next nap is doubled. A plan that comes too late, or a look for work where there is none,
-/// takes the lock from those who get on; so a worker that meets either again and again sleeps for ever longer, and lets them.
+/// The attempts of a worker that brought nothing since it last did something useful; contracts see how often its next nap is
+/// doubled. A plan that comes too late, or a look for work that finds none, takes the lock from workers that get on. So a worker
+/// to which this happens again and again sleeps longer and longer.
 #[derive(Drop)]
 pub(crate) struct Rest {
     backoff: Backoff,
@@ -44,7 +45,7 @@ impl Rest {
         }
     }
 
-    /// Something was done, and there may be more to do at once.
+    /// Notes that something was done, and that there may be more to do at once.
     pub(crate) fn end(&mut self)
         ensures none { self.new ≡ 0 }
     {
@@ -52,7 +53,7 @@ impl Rest {
         self.vain = 0;
     }
 
-    /// A plan came too late. The first in a row costs no nap: the next may well be in time.
+    /// Notes that a plan came too late, and naps. The first such plan in a row costs no nap: the next one may well be in time.
     pub(crate) fn behind<R: Wait>(&mut self, rt: &R)
         ensures longer { self.new ≡ min (self.old + 1) 6 }
     {
@@ -62,7 +63,7 @@ impl Rest {
         self.count();
     }
 
-    /// There was nothing to do.
+    /// Notes that there was nothing to do. Naps, once a few short waits have brought nothing.
     pub(crate) fn idle<R: Wait>(&mut self, rt: &R)
         ensures longer { self.old ≤ self.new }
     {
@@ -74,7 +75,7 @@ impl Rest {
         }
     }
 
-    /// There was no place to work at.
+    /// Notes that no place was free, and naps.
     pub(crate) fn stand_by<R: Wait>(&mut self, rt: &R)
         ensures longer { self.new ≡ min (self.old + 1) 6 }
     {

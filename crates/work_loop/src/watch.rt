@@ -1,14 +1,14 @@
-// How long a piece of work takes, so that small ones can be told from large ones.
+// The time that a piece of work takes, to tell small pieces from large ones.
 
 use std::time::{Clock, Duration, Instant};
 
-// How many microseconds a small piece of work takes at most: about what two turns of a lock cost that go from thread to thread.
+// The longest time of a small piece of work, in microseconds: about the cost of two turns of a lock between two threads.
 const SMALL_MICROS: u64 = 25;
 
-/// A clock, read when some work began. What it tells is a hint: no clause depends on it.
+/// A clock that was read when some work began. Its answer is a hint: no clause depends on it.
 #[derive(Drop)]
 pub struct Watch {
-    // None where the clock could not be read.
+    // None if the clock could not be read.
     began: Option<Instant>,
 }
 
@@ -20,7 +20,7 @@ impl Watch {
         }
     }
 
-    /// Whether a piece of work that took the time since then is small.
+    /// Whether a piece of work that took the time since the start is small.
     pub fn shows_small<R: Clock>(&self, rt: &R) -> bool {
         let Some(began) = self.began else {
             return false;

@@ -13,7 +13,9 @@ use def_memory::Memory;
 use std::sync::Wait;
 use std::time::Clock;
 
-/// Works at the bench until nothing is left to do, and then answers Ok, with its seat at rest. On `Memory` a ticket that it holds is given back first. Whatever the answer, each ticket that it was given is spent, and the seat is the bench's own, as it was but for what it has seen since.
+/// Works at the bench until nothing is left to do, and then returns Ok, with its seat at rest. Before it returns `Memory` it
+/// gives back the ticket that it holds. In both cases each ticket that it was given is spent, and the seat still belongs to the
+/// bench.
 pub fn work<B: Bench, G: Gate, R: Wait + Clock>(
     rt: &R,
     bench: &B,
@@ -49,8 +51,8 @@ pub fn work<B: Bench, G: Gate, R: Wait + Clock>(
     unreachable!()
 }
 
-// Looks for work once, and does it: what the bench offered, with how the plan was received in place of the ticket. Each
-// ticket that it was given is spent, whatever the answer.
+// Looks for work once, does it, and returns the offer of the bench; in place of a ticket the offer has how its plan was received.
+// Each ticket that it was given is spent, even on `Memory`.
 fn look<B: Bench, G: Gate, R: Wait + Clock>(
     rt: &R,
     bench: &B,
@@ -80,7 +82,7 @@ fn look<B: Bench, G: Gate, R: Wait + Clock>(
     }
 }
 
-// One ticket's work, within the gate, and how its plan was received. The ticket is spent, whatever the answer.
+// Does one ticket's work, inside the gate, and returns how its plan was received. The ticket is spent, even on `Memory`.
 fn serve<B: Bench, G: Gate, R: Wait + Clock>(
     rt: &R,
     bench: &B,
@@ -112,7 +114,7 @@ fn serve<B: Bench, G: Gate, R: Wait + Clock>(
     }
 }
 
-// Works out the ticket's plan and hands it in. On `Memory` the ticket is out still.
+// Makes the ticket's plan and hands it in. On `Memory` the ticket is still out.
 fn complete<B: Bench, R: Wait + Clock>(
     rt: &R,
     bench: &B,

@@ -2,7 +2,7 @@
 
 use def_memory::Memory;
 
-/// A seat, and what its worker answered. Contracts speak of it; code outside makes none.
+/// A seat, and the result of its worker. Contracts mention this type; code outside the crate cannot make one.
 #[derive(Drop)]
 pub struct Worker<S> {
     pub(crate) seat: S,

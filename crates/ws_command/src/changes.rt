@@ -3,33 +3,33 @@
 use crate::patterns::{Pattern, Replacement};
 use ws_written::{Fact, NewFact, Relation, Rule, Unknown, Value};
 
-/// How far an update may go.
+/// The limits of an update.
 #[derive(Clone, Copy)]
 pub struct Bounds {
-    /// `--only`: nothing may come or go but what is named.
+    /// `--only`: only tuples that are named may come or go.
     pub only: bool,
-    /// `--cascade`: tuples may go along that are not named.
+    /// `--cascade`: tuples that are not named may go too.
     pub cascade: bool,
-    /// `--steps N`: its budget.
+    /// `--steps N`: the budget of the update.
     pub steps: u32,
 }
 
-/// The choice of an answer as it was said.
+/// The choice of an answer, as the command gives it.
 #[derive(Drop)]
 pub enum SaidChoice {
-    /// None, or `go`.
+    /// No choice, or `go`.
     Go,
     /// Candidates by their numbers.
     Numbers(Vec<u32>),
     /// `new` or `expand`.
     New,
-    /// Candidates by themselves.
+    /// Candidates as tuples.
     Facts(Vec<Fact>),
     Unify(Fact),
     Delete(Vec<Fact>),
 }
 
-/// Where rows come from.
+/// The source of rows.
 #[derive(Drop)]
 pub enum Source {
     /// A file; `-` is standard input.
@@ -38,7 +38,7 @@ pub enum Source {
     Lines(u32),
 }
 
-/// `load`, with the words of its options as they were said.
+/// `load`, with the words of its options as the command gives them.
 #[derive(Drop)]
 pub struct Load {
     pub relation: String,
@@ -53,12 +53,12 @@ pub struct Load {
     pub columns: Option<String>,
 }
 
-/// What a command would change.
+/// A change that a command asks for.
 #[derive(Drop)]
 pub enum Change {
     Relation(Relation),
     Mapping(Rule),
-    /// Repairs what violates a mapping, each repair with a budget.
+    /// Repairs the violations of a mapping, each repair with this budget of steps.
     Adopt(String, u32),
     Drop(String),
     Insert(Vec<NewFact>, Bounds),

@@ -1,4 +1,4 @@
-//! A command, as a value: what its line asks for, with names of relations looked up, and not yet what it does.
+//! Commands as values: what a line asks for. Names of relations are looked up already; nothing is done yet.
 #![tactic(auto)]
 
 mod changes;

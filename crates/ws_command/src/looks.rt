@@ -3,14 +3,14 @@
 use crate::patterns::Pattern;
 use ws_written::{Atom, Unknown};
 
-/// A table that is shown, or the rows that an atom matches.
+/// One item of `show`: a whole table, or the rows that an atom matches.
 #[derive(Drop)]
 pub enum Shown {
     Table(u32),
     Rows(Atom),
 }
 
-/// Which of the rows are told: `--unknowns`, `--like WORD`, `--from K`, `--limit N`.
+/// The options that choose which rows are shown: `--unknowns`, `--like WORD`, `--from K`, `--limit N`.
 #[derive(Drop)]
 pub struct Paging {
     pub unknowns: bool,
@@ -26,14 +26,14 @@ pub struct Asked {
     pub atoms: Vec<Atom>,
 }
 
-/// What is to be explained.
+/// The subject of an explanation.
 #[derive(Drop)]
 pub enum Why {
     Fact(Pattern),
     Unknown(Unknown),
 }
 
-/// `export`: one relation or all, the forms that were named, among them the file of `--sqlite`, and the file of `--to`.
+/// `export`: one relation or all, the formats that were named (`--sqlite` with its file), and the file of `--to`.
 #[derive(Drop)]
 pub struct Export {
     pub relation: Option<u32>,
@@ -44,17 +44,17 @@ pub struct Export {
     pub to: Option<String>,
 }
 
-/// What a command looks at.
+/// A command that only looks.
 #[derive(Drop)]
 pub enum Look {
-    /// Tables; none means all.
+    /// The tables to show; all tables if the list is empty.
     Show(Vec<Shown>, Paging),
     Ask {
         asked: Asked,
         unknowns: bool,
         limit: Option<u32>,
     },
-    /// With `--dot`, as a graph.
+    /// An explanation; `true` for `--dot`, which makes it a graph.
     Why(Why, bool),
     Questions {
         number: Option<u32>,
@@ -72,7 +72,7 @@ pub enum Look {
         limit: Option<u32>,
     },
     Status,
-    /// Each with the file of `--to`.
+    /// With the file of `--to`, as `Page` and `Dump` have it too.
     Graph(Option<String>),
     Page(Option<String>),
     Dump(Option<String>),

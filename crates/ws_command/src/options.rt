@@ -1,4 +1,4 @@
-//! The options that stand behind a command.
+//! The options at the end of a command.
 
 use crate::verbs::Verb;
 
@@ -32,7 +32,7 @@ pub enum Opt {
     To,
 }
 
-/// What stands behind an option.
+/// The kind of value that follows an option.
 #[derive(Clone, Copy, PartialEq, Eq)]
 pub enum OptKind {
     /// Nothing.
@@ -46,7 +46,7 @@ pub enum OptKind {
 }
 
 impl Opt {
-    /// The name that it is written by, without the `--` in front.
+    /// The name of the option, without the `--` in front.
     pub fn name(self) -> &'static str {
         match self {
             Opt::Only => "only",
@@ -77,7 +77,7 @@ impl Opt {
         }
     }
 
-    /// What stands behind it.
+    /// The kind of value that follows the option.
     pub fn kind(self) -> OptKind {
         match self {
             Opt::Steps | Opt::Lines | Opt::Limit | Opt::From => OptKind::Count,
@@ -131,7 +131,7 @@ const CHANGE: [Opt; 1] = [Opt::Still];
 const FILE: [Opt; 1] = [Opt::To];
 
 impl Verb {
-    /// The options that its command takes, in the order in which they are told.
+    /// The options that the command takes, in the order in which a hint lists them. `--sqlite` of `export` is not listed.
     pub fn options(self) -> &'static [Opt] {
         match self {
             Verb::Insert => &INSERT,

@@ -1,4 +1,4 @@
-//! Tuples of commands in which `_` may stand.
+//! Tuples of a command in which `_` may stand.
 
 use ws_written::{NewValue, Value};
 
@@ -9,7 +9,7 @@ pub struct Pattern {
     pub values: Vec<Option<Value>>,
 }
 
-/// The second tuple of `replace`, in which `_`, here `None`, keeps what stands there in the first.
+/// The second tuple of `replace`, in which `_`, here `None`, keeps the value of the first tuple.
 #[derive(Drop)]
 pub struct Replacement {
     pub relation: u32,

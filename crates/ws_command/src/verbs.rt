@@ -31,7 +31,7 @@ pub enum Verb {
     Quit,
 }
 
-/// Each verb, in the order in which names are compared with them.
+/// All verbs, in the order in which a word is compared with them.
 pub const VERBS: [Verb; 26] = [
     Verb::Relation,
     Verb::Mapping,
@@ -62,7 +62,7 @@ pub const VERBS: [Verb; 26] = [
 ];
 
 impl Verb {
-    /// The word that it is written by.
+    /// The word for the verb.
     pub fn word(self) -> &'static str {
         match self {
             Verb::Relation => "relation",
@@ -94,7 +94,7 @@ impl Verb {
         }
     }
 
-    /// The verb of a word; `exit` is `quit`.
+    /// The verb for a word; `exit` means `quit`.
     pub fn of(word: &str) -> Option<Verb> {
         if word == "exit" {
             return Some(Verb::Quit);
@@ -102,7 +102,7 @@ impl Verb {
         VERBS.iter().copied().find(|verb| verb.word() == word)
     }
 
-    /// Whether its command changes the workspace.
+    /// Whether the command changes the workspace.
     pub fn changes(self) -> bool {
         match self {
             Verb::Relation | Verb::Mapping | Verb::Adopt | Verb::Drop => true,

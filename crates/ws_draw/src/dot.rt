@@ -8,7 +8,7 @@ use ws_written::Relation;
 
 const HEAD: [&str; 3] = ["digraph mappings {", "  rankdir=LR;", "  node [shape=box];"];
 
-/// Adds a text between quotes, as DOT has it.
+/// Adds a text between quotes, as DOT writes it.
 pub fn add_dot_text(out: &mut Text, text: &str) {
     out.push('"');
     for letter in text.chars() {
@@ -44,7 +44,7 @@ fn link_line(alloc: Global, number: usize, link: &Link<'_>) -> Result<String, Al
     line.done()
 }
 
-// The lines of a mapping: itself, and its edges.
+// Adds the lines of a mapping: its ellipse and its edges.
 fn add_link(alloc: Global, lines: &mut Lines, number: usize, link: &Link<'_>) {
     lines.made(link_line(alloc, number, link));
     for relation in link.left.iter() {
@@ -55,7 +55,7 @@ fn add_link(alloc: Global, lines: &mut Lines, number: usize, link: &Link<'_>) {
     }
 }
 
-/// The lines of the graph.
+/// The lines of the graph in DOT.
 pub fn graph_lines(
     alloc: Global,
     relations: &[Relation],

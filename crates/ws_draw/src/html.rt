@@ -1,4 +1,4 @@
-//! Texts as HTML has them.
+//! Texts as HTML writes them.
 
 use std::fmt::Write;
 use ws_print::{Text, is_control};
@@ -23,8 +23,8 @@ fn add_other(out: &mut Text, letter: char) {
     out.push(letter)
 }
 
-/// Adds a text so that it is shown as it is, wherever it stands in a page. Control characters but line feeds and tabs are
-/// `\u{hex}`.
+/// Adds a text so that a page shows it as it is, inside elements and inside attributes. Control characters other than line feeds
+/// and tabs become `\u{hex}`.
 pub fn add_html(out: &mut Text, text: &str) {
     for letter in text.chars() {
         add_letter(out, letter);

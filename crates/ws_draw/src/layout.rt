@@ -9,14 +9,14 @@ use ws_written::Relation;
 /// The height of a box.
 pub(crate) const HIGH: usize = 30;
 
-// The margin of the picture, how far boxes of a column are apart from top to top, and the room between columns.
+// The margin of the picture, the distance between the tops of two boxes in a column, and the room between columns.
 const MARGIN: usize = 10;
 
 const ROW: usize = 46;
 
 const GAP: usize = 50;
 
-/// A relation or a mapping with its box: its left upper corner, and its width.
+/// A relation or a mapping with its box: the upper left corner, and the width.
 #[derive(Drop)]
 pub(crate) struct Node<'a> {
     pub is_link: bool,
@@ -29,7 +29,7 @@ pub(crate) struct Node<'a> {
     rank: usize,
 }
 
-/// All boxes, column by column, the width of the picture, and the height of its highest column.
+/// All boxes, column by column, the width of the picture, and the height of its tallest column.
 #[derive(Drop)]
 pub(crate) struct Layout<'a> {
     pub nodes: Vec<Node<'a>>,
@@ -38,7 +38,7 @@ pub(crate) struct Layout<'a> {
 }
 
 impl<'a> Layout<'a> {
-    /// The box of a relation or of a mapping. It takes no memory.
+    /// The box of a relation or of a mapping.
     pub fn node(&self, is_link: bool, number: usize) -> Option<&Node<'a>> {
         self.nodes
             .iter()
@@ -91,7 +91,7 @@ fn nodes_of<'a>(
     Ok(nodes)
 }
 
-// The box of a relation, which has no place yet.
+// The box of a relation, without a place yet.
 fn node_of<'a>(number: usize, name: &'a str, rank: usize) -> Node<'a> {
     Node {
         is_link: false,
@@ -105,7 +105,7 @@ fn node_of<'a>(number: usize, name: &'a str, rank: usize) -> Node<'a> {
     }
 }
 
-// Where the next box of a column stands, and what the boxes so far take.
+// The place of the next box in a column, and the room that the boxes so far take.
 #[derive(Drop)]
 struct Pen {
     rank: Option<usize>,

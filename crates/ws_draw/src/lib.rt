@@ -1,6 +1,4 @@
-//! Pictures of the mappings between relations: DOT, and SVG that is laid out here; and texts as HTML has them.
-//!
-//! Each function is refused only for want of memory.
+//! Pictures of the mappings between relations, in DOT, or in SVG with a layout computed here; and texts as HTML writes them.
 #![tactic(auto)]
 
 mod dot;

@@ -1,10 +1,10 @@
-//! A mapping as it is drawn: from the relations that it reads to those that it fills.
+//! A mapping as it is drawn, from the relations that it reads to the relations that it fills.
 
 use std::alloc::{AllocError, Global};
 use ws_written::{Atom, Rule};
 
-/// A mapping: its name, whether it is only proposed, and the numbers of the relations on its left and on its right side, rising,
-/// each once.
+/// A mapping: its name, whether it is only proposed, and the numbers of the relations on its left and on its right side. The
+/// numbers rise, so each stands once.
 #[derive(Drop)]
 pub struct Link<'a> {
     pub name: &'a str,
@@ -23,7 +23,7 @@ pub fn link_of(alloc: Global, rule: &Rule, is_open: bool) -> Result<Link<'_>, Al
     })
 }
 
-// The relations of the atoms.
+// The relations of the atoms, by rising numbers.
 fn relations_of(alloc: Global, atoms: &[Atom]) -> Result<Vec<u32>, AllocError> {
     let mut relations = Vec::new(alloc);
     for atom in atoms {

@@ -1,17 +1,17 @@
-//! The columns of a picture: what a mapping fills stands to the right of it, and it to the right of what it reads, as far as
-//! there is no circle.
+//! The columns of a picture. A mapping stands to the right of the relations that it reads, and to the left of the relations that
+//! it fills, as far as cycles allow.
 
 use crate::links::Link;
 use std::alloc::{AllocError, Global};
 
-/// The rank of each relation and of each mapping. Those of one rank stand in one column.
+/// The rank of each relation and of each mapping. Boxes of one rank stand in one column.
 #[derive(Drop)]
 pub(crate) struct Ranks {
     pub relations: Vec<usize>,
     pub links: Vec<usize>,
 }
 
-/// The ranks of so many relations and of the mappings: 0 at first, and raised as many times as there are relations.
+/// The ranks of `count` relations and of the mappings. They begin with 0, and are raised in `count` rounds.
 pub(crate) fn ranks_of(
     alloc: Global,
     count: usize,
@@ -39,7 +39,7 @@ fn zeros(alloc: Global, count: usize) -> Result<Vec<usize>, AllocError> {
     Ok(ranks)
 }
 
-// One more than the greatest rank on the left side; at most the last odd one.
+// One more than the greatest rank on the left side, but at most 2n - 1 for n relations.
 fn rank_of(relations: &[usize], link: &Link<'_>) -> usize {
     let mut greatest = 0usize;
     for relation in link.left.iter() {
@@ -51,7 +51,7 @@ fn rank_of(relations: &[usize], link: &Link<'_>) -> usize {
     most.min(greatest.saturating_add(1))
 }
 
-// Raises the relations of the right side alone to a rank, unless it is too far.
+// Raises the relations that stand only on the right side to `rank`, unless it is too high.
 fn raise(relations: &mut Vec<usize>, link: &Link<'_>, rank: usize) {
     if relations.len().min(8).saturating_mul(2) < rank {
         return;

@@ -1,4 +1,4 @@
-//! The mappings as SVG: boxes, round for mappings, and arrows; what is only proposed is dashed.
+//! The mappings as SVG: boxes for relations, rounded boxes for mappings, and arrows. A mapping that is only proposed is dashed.
 
 use crate::html::add_html;
 use crate::layout::{HIGH, Layout, Node, layout_of};
@@ -14,7 +14,7 @@ const MARKER: &str =
     "<defs><marker id=\"a\" viewBox=\"0 0 8 8\" refX=\"8\" refY=\"4\" markerWidth=\"7\" \
      markerHeight=\"7\" orient=\"auto\"><path d=\"M0 0L8 4L0 8z\" class=\"tip\"/></marker></defs>";
 
-/// The picture: one element, whose classes a page gives their colours.
+/// The picture as one `svg` element. The page gives its classes their colours.
 pub fn svg_of(
     alloc: Global,
     relations: &[Relation],
@@ -71,7 +71,7 @@ fn add_edge(out: &mut Text, height: usize, from: &Node<'_>, to: &Node<'_>, is_op
     write!(out, "\" class=\"{class}\" marker-end=\"url(#a)\"/>")
 }
 
-// From the right side of a box to the left side of one in a later column.
+// Adds the path from the right side of a box to the left side of a box in a later column.
 fn add_way_on(out: &mut Text, from: &Node<'_>, to: &Node<'_>) {
     let x = from.x.saturating_add(from.width);
     let y = from.y.saturating_add(HIGH / 2);
@@ -82,7 +82,7 @@ fn add_way_on(out: &mut Text, from: &Node<'_>, to: &Node<'_>) {
     write!(out, "M{x} {y}C{out_x} {y} {in_x} {to_y} {to_x} {to_y}")
 }
 
-// From the foot of a box to the foot of one in no later column, below all boxes.
+// Adds the path from the foot of a box to the foot of a box in the same or an earlier column, below all boxes.
 fn add_way_back(out: &mut Text, height: usize, from: &Node<'_>, to: &Node<'_>) {
     let low = height.saturating_add(25);
     let x = from.x.saturating_add(from.width / 2);

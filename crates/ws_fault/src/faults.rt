@@ -1,4 +1,4 @@
-//! What is wrong with a command, and where.
+//! Faults of a command, and refusals.
 
 use crate::statuses::Status;
 use def_memory::Memory;
@@ -11,13 +11,13 @@ pub struct Fault {
     pub words: String,
     /// The place in the line, in characters from 0, if there is one.
     pub place: Option<usize>,
-    /// What may be done about it.
+    /// A way to mend it.
     pub hint: Option<String>,
-    /// Further faults, each in a line of its own.
+    /// Further faults, each on a line of its own.
     pub more: Vec<String>,
 }
 
-/// Why a call has no answer.
+/// The reason why a call has no answer.
 #[derive(Drop)]
 pub enum Refusal {
     Fault(Fault),

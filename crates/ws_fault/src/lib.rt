@@ -1,4 +1,4 @@
-//! Statuses, faults, and the name that a wrong one may have meant.
+//! Statuses, faults, and the known name that a wrong name may have meant.
 #![tactic(auto)]
 
 mod faults;

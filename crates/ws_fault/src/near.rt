@@ -1,12 +1,12 @@
-//! Did you mean: the name nearest to a wrong one.
+//! The question "did you mean ..?", by the name nearest to a wrong one.
 
 use std::alloc::{AllocError, Global};
 use strsim::osa_distance;
 
-/// The first of the nearest names to a word, of those that were considered.
+/// The considered name that is nearest to a word; the first one if several are equally near.
 ///
-/// A name is near if at most a third of the longer one's letters have to be put in, taken out, changed, or swapped with
-/// the next. Capitals count for nothing.
+/// A name is near if its distance to the word is at most a third of the length of the longer of the two. The distance counts
+/// letters inserted, deleted, changed, or swapped with the next one. Capitals do not matter.
 #[derive(Drop)]
 pub struct Nearest<'a> {
     alloc: Global,
@@ -16,7 +16,7 @@ pub struct Nearest<'a> {
 }
 
 impl<'a> Nearest<'a> {
-    /// Nothing was considered yet. It is refused only for want of memory.
+    /// A search for the nearest name to `word`, before any name is considered.
     pub fn to(alloc: Global, word: &str) -> Result<Nearest<'a>, AllocError> {
         Ok(Nearest {
             alloc,
@@ -26,7 +26,7 @@ impl<'a> Nearest<'a> {
         })
     }
 
-    /// Considers a name. It is refused only for want of memory.
+    /// Considers a name.
     pub fn consider(&mut self, name: &'a str) -> Result<(), AllocError> {
         let lower = name.to_lowercase(self.alloc)?;
         let distance = osa_distance(self.alloc, self.word.as_str(), lower.as_str())?;
@@ -51,7 +51,7 @@ impl<'a> Nearest<'a> {
         }
     }
 
-    /// The question whether the nearest name was meant, if any is near. It is refused only for want of memory.
+    /// The question whether the nearest name was meant, if any is near.
     pub fn question(&self) -> Result<Option<String>, AllocError> {
         match self.best {
             Some((_, name)) => Ok(Some(meant(self.alloc, name)?)),
@@ -60,7 +60,7 @@ impl<'a> Nearest<'a> {
     }
 }
 
-/// The question whether a name was meant. It is refused only for want of memory.
+/// The question whether a name was meant.
 pub fn meant(alloc: Global, name: &str) -> Result<String, AllocError> {
     format!(in alloc; "did you mean {name}?")
 }

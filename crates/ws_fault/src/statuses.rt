@@ -1,15 +1,15 @@
 //! The statuses of replies.
 
-/// What a reply comes to.
+/// The outcome of a command.
 #[derive(Clone, Copy, PartialEq, Eq)]
 pub enum Status {
-    /// It is done.
+    /// The command is done.
     Done,
-    /// It is accepted, and waits for an answer.
+    /// The change is accepted, and waits for an answer.
     Waits,
     /// The words or the line cannot be read.
     Unread,
-    /// It does not fit what is there.
+    /// The command does not fit what is there.
     Refused,
     /// There are violations.
     Violated,
@@ -28,7 +28,7 @@ pub enum Status {
 }
 
 impl Status {
-    /// The status of the process.
+    /// The exit status of the process.
     pub fn code(self) -> u8 {
         match self {
             Status::Done => 0,
@@ -45,7 +45,7 @@ impl Status {
         }
     }
 
-    /// Whether a script stops at it.
+    /// Whether a script stops at a line with this status.
     pub fn stops(self) -> bool {
         match self {
             Status::Done | Status::Waits | Status::Violated | Status::Nothing => false,

@@ -1,4 +1,4 @@
--- What the program's record of a call stands for.
+-- The call that a record of the program stands for.
 use Rattle.std.specs.Prelude.{Bool}
 use Rattle.base_devices.specs.Logs.{Call, Load, Sync, Write}
 use Rattle.ws_file.specs.declared.calls.Deed.{Deed}

@@ -8,7 +8,7 @@ use std::io::{self, ErrorKind};
 use std::marker::Model;
 use std::os::unix::fs::FileExt;
 
-/// What a call of a disk is asked to do.
+/// What one call of a disk does.
 #[derive(Drop)]
 pub(crate) enum Deed {
     Load,
@@ -16,14 +16,14 @@ pub(crate) enum Deed {
     Write(usize, Vec<u8>),
 }
 
-/// A counted call.
+/// A counted call, and whether it failed.
 #[derive(Drop)]
 pub(crate) struct Counted {
     deed: Deed,
     failed: bool,
 }
 
-/// The counted calls, how many of them failed, and why the first did.
+/// The counted calls, the number of calls that failed since the file was opened, and the reason of the first failure.
 #[derive(Drop)]
 pub(crate) struct Log {
     calls: Vec<Counted>,
@@ -45,8 +45,8 @@ impl Model for Log {
 }
 
 impl Deed {
-    // Makes the call of the system, at a file whose bytes are the disk's from the base on. What was read when the file was
-    // opened is not read again.
+    // Makes the call of the system. The disk begins at the place `base` of the file. A load reads nothing: the bytes were read
+    // when the file was opened.
     fn make(&self, file: &File, base: u64) -> io::Result<()> {
         match self {
             Deed::Load => Ok(()),
@@ -63,7 +63,7 @@ impl Log {
     ghost use Rattle.ws_file.specs.Files.{IsCounted, IsGivenUp};
     ghost use Rattle.ws_file.specs.Counted.{deed_of};
 
-    /// No call yet.
+    /// A log without calls.
     pub(crate) fn new(alloc: Global) -> Log
         ensures { result ≡ record { calls = []; faults = 0 } }
     {
@@ -74,7 +74,7 @@ impl Log {
         }
     }
 
-    /// Makes the call and counts it. After one that failed no call is made, and each counts as failed.
+    /// Makes the call and counts it. After a failed call no further call is made, and each counts as failed.
     pub(crate) fn make(&mut self, file: &File, base: u64, deed: Deed) -> Result<(), DiskRefusal>
         ensures counted { IsCounted (deed_of deed) self.old self.new result }
         ensures later { self.old.faults ≤ self.new.faults }
@@ -100,19 +100,19 @@ impl Log {
         Err(DiskRefusal::Failed)
     }
 
-    /// How many calls have failed.
+    /// The number of calls that failed since the file was opened.
     pub(crate) fn faults(&self) -> u64
         ensures { result ≡ self.now.faults }
     {
         self.faults
     }
 
-    /// Why the first call that failed did.
+    /// The reason of the first failure; None if no call has failed.
     pub(crate) fn reason(&self) -> Option<io::Error> {
         self.reason
     }
 
-    /// The calls are forgotten, and the faults are not.
+    /// Forgets the calls, but neither the number of failures nor the reason of the first.
     pub(crate) fn begin_anew(&mut self)
         ensures { self.new ≡ record { calls = []; faults = self.old.faults } }
     {

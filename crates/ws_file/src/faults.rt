@@ -1,24 +1,24 @@
-// Why a file is not in hand.
+// The faults of opening, making and naming a file.
 use base_devices::{DiskRefusal, Memory};
 use std::alloc::{AllocError, AllocFailed};
 use std::io;
 
-/// Why a file is not in hand, or was not made.
+/// Why a file was not opened, locked, read, made or named.
 #[derive(Clone, Copy, Debug)]
 pub enum OpenFault {
     /// No file has the name.
     Absent,
-    /// A file has the name already. It is as it was.
+    /// A file has the name already. That file is unchanged.
     Taken,
     /// The file cannot be opened or read.
     Unreadable(io::Error),
-    /// The file cannot be opened for writing, or not be made.
+    /// The file or its folder cannot be written: the file cannot be opened for writing, made, named or synced.
     Unwritable(io::Error),
-    /// The system refused the lock.
+    /// The system refused the lock, or the clock that limits the wait for it.
     NotLocked(io::Error),
-    /// Another process had the file in hand all the time.
+    /// Other processes held the lock during the whole wait, or gave the name to other files again and again.
     InUse,
-    /// Memory was wanting.
+    /// Memory ran out.
     Memory,
 }
 

@@ -13,8 +13,8 @@ use std::fs::File;
 use std::io;
 use std::marker::Model;
 
-/// A file of the operating system from a place on, the base, locked by this process. It keeps the bytes that were read of it
-/// when it was opened, those that it is to have now, and its calls since.
+/// A file of the operating system as a disk, from the place `base` on, locked by this process. It keeps the bytes that were read
+/// when the file was opened, the bytes that the file must have now, and the calls since then.
 #[derive(Drop)]
 pub struct FileDisk {
     alloc: Global,
@@ -39,7 +39,7 @@ impl Model for FileDisk {
 }
 
 impl FileDisk {
-    /// The file from the base on, whose bytes these are, all of them synced.
+    /// The disk over a file from `base` on. `bytes` are the bytes of the file from there on, all of them synced.
     pub(crate) fn of(
         alloc: Global,
         file: File,
@@ -58,26 +58,27 @@ impl FileDisk {
         })
     }
 
-    /// What the file is to have from the base on.
+    /// The bytes that the file must have from the base on.
     pub fn bytes(&self) -> &[u8]
         ensures { result.now ≡ bytes_of self.now }
     {
         &self.bytes
     }
 
-    /// The place in the file from which the disk goes.
+    /// The place in the file at which the disk begins.
     pub fn base(&self) -> u64
         ensures { result ≡ self.now.base }
     {
         self.base
     }
 
-    /// Why the first call that failed did; None if none has.
+    /// The reason of the first failure; None if no call has failed.
     pub fn reason(&self) -> Option<io::Error> {
         self.log.reason()
     }
 
-    /// The same file from a place further on, of which nothing is pending. What stands before the place is not kept.
+    /// The same file as a disk from a later place on; `place` counts from the base. Nothing may be pending. The bytes before the
+    /// place are not kept.
     pub fn from_place(self, place: usize) -> Result<FileDisk, Memory>
         requires within { place ≤ length (bytes_of self) }
         requires settled { IsSettled (state_of self) }
@@ -107,13 +108,13 @@ impl FileDisk {
         })
     }
 
-    /// Lets go of the lock. The file stays open, so that the system gives its number to no other file.
+    /// Frees the lock. The file stays open, so that the system gives its inode number to no other file.
     pub fn release(self) -> Result<Released, io::Error> {
         self.file.unlock()?;
         Ok(Released::of(self.file))
     }
 
-    // Gives the bytes, in a call that is counted.
+    // Returns the bytes, and counts the call.
     fn make_load(&mut self, alloc: Global) -> Result<Vec<u8>, DiskRefusal>
         ensures bytes { IfOk result (λ all. all.items ≡ bytes_of self.old) }
         ensures made_of { self.new.made_of ≡ self.old.made_of }
@@ -126,7 +127,7 @@ impl FileDisk {
         Ok(all)
     }
 
-    // A sync, which is counted.
+    // Makes a sync, and counts it.
     fn make_sync(&mut self) -> Result<(), DiskRefusal>
         ensures made_of { self.new.made_of ≡ self.old.made_of }
         ensures counted { IsCounted Sync self.old.log self.new.log result }

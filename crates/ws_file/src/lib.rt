@@ -1,8 +1,8 @@
 //! A disk over a file of the operating system: locked, read from a place on, made, published and replaced.
 //!
-//! The lock is `flock` on the whole file, so it ends with the process, however that ends. What no proof shows and a reader has
-//! to trust: that the file does as [`FileDisk`] notes, that after a crash it holds one of the images that `base_devices` allows, that
-//! a sync that succeeded tells the truth, and that nobody writes the file without the lock.
+//! The lock is `flock` on the whole file, so it ends with the process, however the process ends. Four things are trusted, not
+//! proved: the file does as [`FileDisk`] notes; after a crash it holds one of the images that `base_devices` allows; a sync that
+//! reports success was successful; and nobody writes the file without the lock.
 #![tactic(auto)]
 
 mod calls;

@@ -1,4 +1,4 @@
-// A file is locked, and read from a place on.
+// Locks a file, and reads it from a place on.
 ghost use Rattle.std.specs.Prelude.{◌≡◌, IfOk};
 ghost use Rattle.base_devices.specs.States.{IsSettled};
 ghost use Rattle.ws_file.specs.Files.{state_of};
@@ -12,34 +12,34 @@ use std::os::unix::fs::MetadataExt;
 use std::thread;
 use std::time::{Duration, Instant};
 
-/// What a process wants of a file: any number read it at once, and one alone changes it.
+/// What a process will do with a file. Any number of processes read it at the same time; a process that changes it has it alone.
 #[derive(Clone, Copy, Debug, PartialEq, Eq)]
 pub enum Access {
     Read,
     Change,
 }
 
-/// A file that this process has locked, and not read yet. The lock goes with the value, and with the process.
+/// A file that this process has locked and not read yet. The lock ends when the value is dropped, or with the process.
 #[derive(Drop)]
 pub struct Locked {
     file: File,
     access: Access,
 }
 
-/// A file that is open and not locked any more. As long as it is, no other file has its number.
+/// A file that is still open, but no longer locked. As long as it is open no other file has its inode number.
 #[derive(Drop)]
 pub struct Released {
     file: File,
 }
 
-// How often a file is opened whose name went over to another one while its lock was waited for.
+// How often a file is opened, if its name goes to another file during each wait for the lock.
 const TURNS: u32 = 1_000;
 
 // How long a process sleeps before it asks for the lock again.
 const PAUSE_IN_MILLIS: u64 = 10;
 
-/// Opens the file and locks it, and waits as long as it may while other processes have it in hand. A file whose name went
-/// over to another one meanwhile is let go, and the other one is locked. A pipe or a device is not opened: it has no places.
+/// Opens the file and locks it, and waits up to `wait` while other processes hold the lock. If the name goes to another file
+/// meanwhile, that file is locked in place of the first. A pipe, device or socket is refused: it cannot be read from a place on.
 pub fn lock(
     rt: &HostRuntime,
     path: &str,
@@ -68,7 +68,7 @@ fn is_stream(rt: &HostRuntime, path: &str) -> bool {
     }
 }
 
-// The clock that only goes on.
+// The time of the monotonic clock.
 fn now(rt: &HostRuntime) -> Result<Instant, OpenFault> {
     Instant::now(rt).map_err(OpenFault::NotLocked)
 }
@@ -90,7 +90,7 @@ fn not_opened(error: io::Error, access: Access) -> OpenFault {
     }
 }
 
-// Asks for the lock until it has it, or the time since the start is over.
+// Asks for the lock again and again, until it has the lock or `wait` has passed since `start`.
 fn wait_for(
     rt: &HostRuntime,
     file: &File,
@@ -138,14 +138,14 @@ impl Released {
 }
 
 impl Locked {
-    /// Whether it is the file that was let go, and no other one that has its name now.
+    /// Whether it is the released file, and not another file that has its name now.
     pub fn is(&self, released: &Released) -> Result<bool, OpenFault> {
         let here = self.file.metadata().map_err(OpenFault::Unreadable)?;
         let there = released.file.metadata().map_err(OpenFault::Unreadable)?;
         Ok(here.dev() == there.dev() && here.ino() == there.ino())
     }
 
-    /// Reads the file from the place on. What it has is made last first, so nothing is pending at `Ok`.
+    /// Reads the file from the place on. The file is synced first, so nothing is pending at `Ok`.
     pub fn read_from(self, alloc: Global, place: u64) -> Result<FileDisk, OpenFault>
         ensures settled { IfOk result (λ disk. IsSettled (state_of disk)) }
         ensures base { IfOk result (λ disk. disk.base ≡ place) }
@@ -158,7 +158,7 @@ impl Locked {
     }
 }
 
-// Makes last what the file has. A file system that is only read refuses a sync, and has nothing pending.
+// Syncs the file. A read-only file system refuses a sync, and has nothing pending.
 fn make_last(file: &File, access: Access) -> io::Result<()> {
     match file.sync_data() {
         Err(error) if access == Access::Read && is_only_read(error.kind()) => Ok(()),

@@ -1,4 +1,4 @@
-// A file is made beside another one, takes its name in one step, and has it for good.
+// Makes a file beside another one, gives it the name in one step, and makes the name last.
 ghost use Rattle.std.specs.Prelude.{◌≡◌, [], IfOk};
 ghost use Rattle.ws_file.specs.Files.{just_opened};
 
@@ -9,14 +9,14 @@ use std::io::{self, ErrorKind};
 use std::path::{Path, PathBuf};
 use std::process;
 
-/// The name of a file that was made beside the path, and has not its name yet.
+/// The name of a file that was made beside a path, and is not yet the file at the path.
 #[derive(Drop)]
 pub struct MadeFile {
     name: String,
 }
 
-/// Makes an empty file beside the path, as PATH.PID.new, and locks it. A file that a process of the same number left there is let
-/// go by its name alone: it may be the file that has the path, under a second name.
+/// Makes an empty file beside the path, named PATH.PID.new, and locks it. If an earlier process with the same number left a file
+/// there, only its name is removed and its bytes stay: it may be the file at the path, under a second name.
 pub fn make_beside(rt: &HostRuntime, path: &str) -> Result<(MadeFile, FileDisk), OpenFault>
     ensures { IfOk result (λ made. made.1 ≡ just_opened 0 []) }
 {
@@ -29,7 +29,7 @@ pub fn make_beside(rt: &HostRuntime, path: &str) -> Result<(MadeFile, FileDisk),
     Ok((MadeFile { name }, disk))
 }
 
-// A new file of the name; what has it loses it.
+// Makes a new file of this name. A file that has the name loses it.
 fn made_anew(rt: &HostRuntime, name: &str) -> io::Result<File> {
     match fs::remove_file(rt, name) {
         Err(error) if error.kind() != ErrorKind::NotFound => Err(error),
@@ -38,16 +38,16 @@ fn made_anew(rt: &HostRuntime, name: &str) -> io::Result<File> {
 }
 
 impl MadeFile {
-    /// Gives the file the name, which no file has, in one step, and makes that last. `Taken` if a file has it, `Unwritable` if
-    /// a link has it that leads nowhere. The file goes after a fault; a fault of the last sync leaves it under the name.
+    /// Gives the file the name `path` in one step, and makes the name last. `Taken` if a file has the name, `Unwritable` if a
+    /// dangling link has it. After a fault the file is gone; but if only the last sync fails it has the name.
     pub fn publish(self, rt: &HostRuntime, path: &str) -> Result<(), OpenFault> {
         let linked = linked(rt, self.name.as_str(), path);
         self.give_up(rt);
         linked?.sync_all().map_err(OpenFault::Unwritable)
     }
 
-    /// Gives the file the name in place of the file that has it, in one step, and makes that last. Who may read and write the
-    /// one may read and write the other. The file goes after a fault; a fault of the last sync leaves it under the name.
+    /// Gives the file the name `path` in place of the file that has it, in one step, and makes the name last. It takes over the
+    /// permissions of the other file. After a fault the file is gone; but if only the last sync fails it has the name.
     pub fn replace(self, rt: &HostRuntime, path: &str) -> Result<(), OpenFault> {
         match renamed(rt, self.name.as_str(), path) {
             Ok(folder) => folder.sync_all().map_err(OpenFault::Unwritable),
@@ -58,19 +58,19 @@ impl MadeFile {
         }
     }
 
-    /// The file goes.
+    /// Removes the name with which the file was made. If the file has no other name, it is gone.
     pub fn give_up(self, rt: &HostRuntime) {
         let _gone = fs::remove_file(rt, self.name.as_str());
     }
 }
 
-/// Makes the name of the file at the path last; if the path is a link, that of the file to which it leads.
+/// Makes the name of the file at the path last. If the path is a link, the name of the file to which it leads is made last.
 pub fn make_name_last(rt: &HostRuntime, path: &str) -> Result<(), OpenFault> {
     let folder = folder_of_file(rt, path)?;
     folder.sync_all().map_err(OpenFault::Unwritable)
 }
 
-// The folder that has the name of the file itself.
+// The folder of the file at the path. If the path is a link, it is the folder of the file to which the link leads.
 fn folder_of_file(rt: &HostRuntime, path: &str) -> Result<File, OpenFault> {
     let named = fs::symlink_metadata(rt, path).map_err(OpenFault::Unwritable)?;
     if !named.is_symlink() {
@@ -82,7 +82,7 @@ fn folder_of_file(rt: &HostRuntime, path: &str) -> Result<File, OpenFault> {
     folder_of(rt, file.as_str())
 }
 
-// The folder of the path, once the path is a name of the file too. All that takes memory is done before.
+// Makes the path a second name of the file, and returns the folder of the path. All that takes memory is done before.
 fn linked(rt: &HostRuntime, name: &str, path: &str) -> Result<File, OpenFault> {
     let folder = folder_of(rt, path)?;
     match fs::hard_link(rt, name, path) {
@@ -92,7 +92,7 @@ fn linked(rt: &HostRuntime, name: &str, path: &str) -> Result<File, OpenFault> {
     }
 }
 
-// The folder of the path, once the file has the path for its name. All that takes memory is done before.
+// Renames the file to the path, and returns the folder of the path. All that takes memory is done before.
 fn renamed(rt: &HostRuntime, name: &str, path: &str) -> Result<File, OpenFault> {
     let folder = folder_of(rt, path)?;
     match take_over(rt, name, path) {
@@ -101,7 +101,7 @@ fn renamed(rt: &HostRuntime, name: &str, path: &str) -> Result<File, OpenFault> 
     }
 }
 
-// Why the path cannot be named anew: a file has it, or it is a link that leads nowhere.
+// The fault of a name that is taken, by a file or by a dangling link.
 fn taken(rt: &HostRuntime, path: &str, error: io::Error) -> OpenFault {
     match fs::exists(rt, path) {
         Ok(false) => OpenFault::Unwritable(error),
@@ -115,7 +115,7 @@ fn take_over(rt: &HostRuntime, name: &str, path: &str) -> io::Result<()> {
     fs::rename(rt, name, path)
 }
 
-// The folder that has the names beside the path; a sync of it makes them last.
+// Opens the folder of the path. A sync of the folder makes the names in it last.
 fn folder_of(rt: &HostRuntime, path: &str) -> Result<File, OpenFault> {
     let mut folder = PathBuf::from_str(rt.alloc(), path)?;
     folder.pop();

@@ -12,7 +12,7 @@ use ws_written::Fact;
 type Chosen = (SaidChoice, Options);
 
 impl<'a> Cursor<'a> {
-    /// What stands after `answer`.
+    /// The change that the rest of an `answer` asks for.
     pub(crate) fn answer_change(&mut self) -> Result<Changed, Refusal> {
         let numbers = self.distinct_numbers()?;
         let (choice, options) = self.choice_and_options(numbers.len())?;
@@ -25,7 +25,7 @@ impl<'a> Cursor<'a> {
         Ok((change, options.still()))
     }
 
-    // The choice of an answer to so many updates, and the options.
+    // The choice of an answer to `count` updates, and the options.
     fn choice_and_options(&mut self, count: usize) -> Result<Chosen, Refusal> {
         let choice = if 1 < count {
             self.common_choice()?
@@ -59,7 +59,7 @@ impl<'a> Cursor<'a> {
         self.take_word("new") || self.take_word("expand")
     }
 
-    // Takes this word, if it stands here and is not the name of a relation in front of a bracket.
+    // Takes `word`, if it stands here and is not the name of a relation in front of a bracket.
     fn takes_verb(&mut self, word: &str) -> bool {
         !self.is_tuple() && self.take_word(word)
     }

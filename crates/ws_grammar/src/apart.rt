@@ -26,7 +26,7 @@ fn is_taken(rule: &Rule, name: &str) -> bool {
     has_variable(rule.left.as_slice(), name) || has_variable(rule.right.as_slice(), name)
 }
 
-// `_i`, with one more `_` in front while the mapping has that name.
+// The name `_i`, with one more `_` in front as long as the mapping has the name already.
 fn free_name(alloc: Global, rule: &Rule, number: u32) -> Result<String, AllocError> {
     let mut name = format!(in alloc; "_{number}")?;
     for _ in 0..u64::MAX {
@@ -50,7 +50,7 @@ fn count_blanks(atoms: &[Atom]) -> u32 {
     count
 }
 
-// The names stand for the `_`s, in order.
+// Puts the names in the places of the `_`s; the last name comes first.
 fn name_blanks(atoms: &mut [Atom], names: &mut Vec<String>) {
     for atom in atoms.iter_mut() {
         for term in atom.terms.iter_mut() {
@@ -63,8 +63,8 @@ fn name_blanks(atoms: &mut [Atom], names: &mut Vec<String>) {
     }
 }
 
-/// Each `_` of the mapping becomes a variable of its own: the i-th is `_i`, with one more `_` in front while that name is taken.
-/// If it is refused, the mapping is as it was.
+/// Makes each `_` of the mapping a variable of its own: the i-th is `_i`, with one more `_` in front as long as the name is
+/// taken. After an error the mapping is unchanged.
 pub fn set_apart(alloc: Global, rule: &mut Rule) -> Result<(), AllocError> {
     let left = count_blanks(rule.left.as_slice());
     let count = left.saturating_add(count_blanks(rule.right.as_slice()));

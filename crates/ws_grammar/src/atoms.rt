@@ -5,7 +5,7 @@ use crate::items::Item;
 use ws_fault::Refusal;
 use ws_written::{Atom, Rule, Term, Value};
 
-/// The most atoms of a side.
+/// The greatest number of atoms on a side.
 const MOST: usize = 8;
 
 // A variable, a number or a text.
@@ -33,7 +33,7 @@ impl Item for Atom {
     }
 }
 
-// A mapping that the file has.
+// A mapping of the file; its name may be one that is kept for the program.
 impl Item for Rule {
     fn read(cursor: &mut Cursor<'_>) -> Result<Rule, Refusal> {
         let name = cursor.owned_name("a name of the mapping")?;
@@ -42,7 +42,7 @@ impl Item for Rule {
 }
 
 impl<'a> Cursor<'a> {
-    // No term stands here.
+    // Refuses what stands here in the place of a term.
     fn no_term(&self) -> Result<Term, Refusal> {
         self.fail_with(
             "a variable, number or text",
@@ -50,7 +50,7 @@ impl<'a> Cursor<'a> {
         )
     }
 
-    /// A mapping that a command declares.
+    /// A mapping that a command declares. Its name must not be one that is kept for the program.
     pub(crate) fn new_rule(&mut self) -> Result<Rule, Refusal> {
         let name = self.plain_name("a name of the mapping")?;
         self.sides(name)

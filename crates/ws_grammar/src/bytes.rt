@@ -1,18 +1,18 @@
-//! Bytes of a line: what they may be part of.
+//! Kinds of bytes, and the tokens that bytes begin with.
 
-/// What a byte may be part of.
+/// A kind of bytes.
 #[derive(Clone, Copy)]
 pub(crate) enum Kind {
-    /// What stands between tokens.
+    /// A blank between tokens.
     Blank,
     Unblank,
     Digit,
     HexDigit,
-    /// A name: letters, digits and `_`.
+    /// Part of a name: a letter, a digit or `_`.
     Name,
-    /// The name of an option: letters and `-`.
+    /// Part of an option's name: a letter or `-`.
     Option,
-    /// What stands between two brackets, with no other between.
+    /// Anything but a bracket.
     Unbracketed,
 }
 
@@ -30,17 +30,17 @@ impl Kind {
     }
 }
 
-/// A blank between tokens.
+/// Whether a byte is a blank between tokens.
 pub(crate) fn is_blank(byte: u8) -> bool {
     byte == b' ' || byte == b'\t' || byte == b'\r'
 }
 
-/// A blank of any kind, as it is cut off around comments.
+/// Whether a character is a blank of any kind; these are cut off around comments.
 pub(crate) fn is_white(letter: char) -> bool {
     letter.is_whitespace() || ('\u{1c}' <= letter && letter <= '\u{1f}')
 }
 
-/// The bytes up to a place, and those from there on; all of them, and none, if there are fewer.
+/// The bytes before a place, and the bytes from there on. If there are fewer bytes, the second part is empty.
 pub(crate) fn cut(bytes: &[u8], place: usize) -> (&[u8], &[u8]) {
     match bytes.split_at_checked(place) {
         Some(parts) => parts,
@@ -48,17 +48,17 @@ pub(crate) fn cut(bytes: &[u8], place: usize) -> (&[u8], &[u8]) {
     }
 }
 
-/// The text up to the first of these letters, and that after it; all of it, and none, if there is no such letter.
+/// The text before the first `letter`, and the text after it. Without such a letter the second text is empty.
 pub(crate) fn cut_at(text: &str, letter: char) -> (&str, &str) {
     text.split_once(letter).unwrap_or((text, ""))
 }
 
-/// The bytes as a text; an empty one if they are none.
+/// The bytes as a text; an empty text if they are not UTF-8.
 pub(crate) fn text_of(bytes: &[u8]) -> &str {
     str::from_utf8(bytes).unwrap_or("")
 }
 
-/// The leading bytes of a kind, and the rest.
+/// The leading bytes of this kind, and the rest.
 pub(crate) fn run(bytes: &[u8], kind: Kind) -> (&[u8], &[u8]) {
     for (place, byte) in bytes.iter().enumerate() {
         if !kind.has(*byte) {
@@ -68,12 +68,12 @@ pub(crate) fn run(bytes: &[u8], kind: Kind) -> (&[u8], &[u8]) {
     (bytes, &[])
 }
 
-/// What stands after the leading blanks.
+/// The bytes after the leading blanks.
 pub(crate) fn after_blanks(bytes: &[u8]) -> &[u8] {
     run(bytes, Kind::Blank).1
 }
 
-/// The name that the bytes begin with, a letter or `_` in front, and the rest, if they begin with one.
+/// The name at the beginning of the bytes, which begins with a letter or `_`, and the rest.
 pub(crate) fn name_run(bytes: &[u8]) -> Option<(&str, &[u8])> {
     let (name, rest) = run(bytes, Kind::Name);
     if name.first()?.is_ascii_digit() {
@@ -82,7 +82,7 @@ pub(crate) fn name_run(bytes: &[u8]) -> Option<(&str, &[u8])> {
     Some((text_of(name), rest))
 }
 
-/// The number that the bytes begin with, as it is written, and the rest, if they begin with one.
+/// The number at the beginning of the bytes, as it is written, and the rest.
 pub(crate) fn number_run(bytes: &[u8]) -> Option<(&str, &[u8])> {
     let after = bytes.strip_prefix(b"-").unwrap_or(bytes);
     let (digits, rest) = run(after, Kind::Digit);

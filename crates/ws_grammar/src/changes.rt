@@ -1,4 +1,4 @@
-//! Commands that change.
+//! Commands that change the workspace.
 
 use crate::cursors::Cursor;
 use crate::items::Item;
@@ -10,7 +10,7 @@ use ws_written::{Relation, STEPS, Unknown};
 /// A change, and the record of `--still`.
 pub(crate) type Changed = (Change, Option<u32>);
 
-// How far an update may go if no option says so.
+// The bounds of an update without options.
 const USUAL: Bounds = Bounds {
     only: false,
     cascade: false,
@@ -18,7 +18,7 @@ const USUAL: Bounds = Bounds {
 };
 
 impl<'a> Cursor<'a> {
-    /// What stands after a verb that changes.
+    /// The change that a verb and the rest of its line ask for.
     pub(crate) fn change(&mut self, verb: Verb) -> Result<Changed, Refusal> {
         match verb {
             Verb::Answer => self.answer_change(),
@@ -38,7 +38,7 @@ impl<'a> Cursor<'a> {
         }
     }
 
-    // What stands in front of the options, with the usual ones.
+    // The change without its options, with the usual bounds.
     fn change_alone(&mut self, verb: Verb) -> Result<Change, Refusal> {
         match verb {
             Verb::Relation => Ok(Change::Relation(Relation::read(self)?)),

@@ -8,10 +8,10 @@ use ws_command::{Command, Said, VERBS, Verb};
 use ws_fault::{Nearest, Refusal, Status, meant};
 use ws_print::{Text, add_escaped};
 
-// What may be done if nothing is near.
+// The hint if no verb is near.
 const LISTED: &str = "`help` lists them";
 
-// Words of other languages, each with the verb that does what it asks for.
+// Words of other languages, each with the verb that does the same here.
 const OTHERS: [(&str, &str); 29] = [
     ("add", "insert"),
     ("put", "insert"),
@@ -44,7 +44,7 @@ const OTHERS: [(&str, &str); 29] = [
     ("unify", "answer"),
 ];
 
-// The verb that does what a word of another language asks for.
+// The verb that does the same as a word of another language.
 fn same_as(word: &str) -> Option<&'static str> {
     for (other, verb) in OTHERS.iter() {
         if *other == word {
@@ -59,7 +59,7 @@ fn can_be_tried(verb: Verb) -> bool {
     verb.changes() && verb != Verb::Fold
 }
 
-// The question whether one of these verbs was meant.
+// The question whether the nearest verb was meant; if `tried`, only verbs that `try` takes are considered.
 fn meant_verb(alloc: Global, word: &str, tried: bool) -> Result<Option<String>, AllocError> {
     let mut nearest = Nearest::to(alloc, word)?;
     for verb in VERBS.iter() {
@@ -70,7 +70,7 @@ fn meant_verb(alloc: Global, word: &str, tried: bool) -> Result<Option<String>, 
     nearest.question()
 }
 
-// What may be done if a word is no verb.
+// The hint for a word that is no verb.
 fn verb_hint(alloc: Global, word: &str) -> Result<Option<String>, AllocError> {
     let lower = word.to_lowercase(alloc)?;
     if let Some(verb) = same_as(lower.as_str()) {
@@ -95,7 +95,7 @@ impl<'a> Cursor<'a> {
         self.no_command(at, word, verb_hint(self.alloc, word))
     }
 
-    // The word at a place is no command.
+    // Refuses the word at a place, which is no command.
     fn no_command(
         &self,
         at: usize,
@@ -123,14 +123,14 @@ impl<'a> Cursor<'a> {
         }
     }
 
-    // What stands after `try`.
+    // The command that the rest of a `try` asks for.
     fn attempt(&mut self) -> Result<Command, Refusal> {
         let verb = self.tried()?;
         let (change, still) = self.change(verb)?;
         Ok(Command::Try { change, still })
     }
 
-    // The verb of a command that `try` takes.
+    // Reads the verb of a command that `try` takes.
     fn tried(&mut self) -> Result<Verb, Refusal> {
         let at = self.at();
         let word = self.name("a command behind try")?;
@@ -158,7 +158,7 @@ impl<'a> Cursor<'a> {
         Ok(Command::Help(verb))
     }
 
-    // The verb that help is asked for.
+    // Reads the verb that help is asked for.
     fn helped(&mut self) -> Result<Verb, Refusal> {
         let at = self.at();
         let word = self.name("a command")?;
@@ -168,7 +168,7 @@ impl<'a> Cursor<'a> {
         }
     }
 
-    /// The comment, at the end of the line.
+    /// The comment of a line that must end here.
     pub(crate) fn last_comment(&self) -> Result<String, Refusal> {
         self.end()?;
         Ok(self.comment()?)
@@ -182,9 +182,9 @@ impl<'a> Cursor<'a> {
     }
 }
 
-/// The command of a line over the names that stand; none if it is blank or a comment alone.
+/// Reads the command of a line over the names that stand. None if the line is blank or only a comment.
 ///
-/// A line has no line feed. It is refused for its first fault from the left, or for want of memory.
+/// The line must not have a line feed. A fault is the first one from the left.
 pub fn read_command(alloc: Global, names: &Names<'_>, line: &str) -> Result<Option<Said>, Refusal> {
     let mut cursor = Cursor::over(alloc, *names, line);
     if cursor.is_done() {

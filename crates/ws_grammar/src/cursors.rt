@@ -5,8 +5,8 @@ use crate::standing::Names;
 use std::alloc::Global;
 use ws_fault::Refusal;
 
-/// A line over the names that stand, and what is left of it. After each token blanks are passed over, and so are a comment and
-/// a last `;`. `strange` has the digits of the first unknown whose numbers have more than 32 bits.
+/// A line over the names that stand, and the rest of it from some place on. After each token the cursor passes over blanks, a
+/// comment and a last `;`. `strange` has the digits of the first unknown whose numbers have more than 32 bits.
 #[derive(Drop)]
 pub(crate) struct Cursor<'a> {
     pub(crate) alloc: Global,
@@ -17,7 +17,7 @@ pub(crate) struct Cursor<'a> {
     pub(crate) strange: Option<(&'a str, &'a str)>,
 }
 
-// Whether nothing but `;` and blanks is left.
+// Whether only `;` and blanks are left.
 fn is_last_semicolon(rest: &[u8]) -> bool {
     match rest {
         [b';', after @ ..] => after_blanks(after).is_empty(),
@@ -26,7 +26,7 @@ fn is_last_semicolon(rest: &[u8]) -> bool {
 }
 
 impl<'a> Cursor<'a> {
-    /// The beginning of a line over the names that stand.
+    /// A cursor at the beginning of a line, over the names that stand.
     pub(crate) fn over(alloc: Global, names: Names<'a>, line: &'a str) -> Cursor<'a> {
         let bytes = line.as_bytes();
         let mut cursor = Cursor {
@@ -41,7 +41,7 @@ impl<'a> Cursor<'a> {
         cursor
     }
 
-    /// Goes on at what is left, after blanks and a comment.
+    /// Moves on to `rest`, and passes over blanks, a comment and a last `;`.
     pub(crate) fn go_on(&mut self, rest: &'a [u8]) {
         self.rest = after_blanks(rest);
         if let Some(comment) = self.rest.strip_prefix(b"#") {
@@ -53,7 +53,7 @@ impl<'a> Cursor<'a> {
         }
     }
 
-    /// The place of what is left, in bytes from the beginning of the line.
+    /// The place of the cursor, in bytes from the beginning of the line.
     pub(crate) fn at(&self) -> usize {
         self.line.len().saturating_sub(self.rest.len())
     }
@@ -66,7 +66,7 @@ impl<'a> Cursor<'a> {
         self.rest.starts_with(sign.as_bytes())
     }
 
-    /// Takes a sign, if it stands here.
+    /// Takes `sign`, if it stands here.
     pub(crate) fn take_sign(&mut self, sign: &str) -> bool {
         let Some(rest) = self.rest.strip_prefix(sign.as_bytes()) else {
             return false;
@@ -75,7 +75,7 @@ impl<'a> Cursor<'a> {
         true
     }
 
-    /// Takes a sign.
+    /// Takes `sign`, or refuses the line.
     pub(crate) fn sign(&mut self, sign: &str, expected: &str) -> Result<(), Refusal> {
         if self.take_sign(sign) {
             return Ok(());
@@ -87,7 +87,7 @@ impl<'a> Cursor<'a> {
         name_run(self.rest).is_some()
     }
 
-    /// Whether a name in front of a bracket stands here.
+    /// Whether a name stands here, and a bracket after it.
     pub(crate) fn is_tuple(&self) -> bool {
         match name_run(self.rest) {
             Some((_, rest)) => after_blanks(rest).starts_with(b"("),
@@ -95,7 +95,7 @@ impl<'a> Cursor<'a> {
         }
     }
 
-    /// Takes a name, if this one stands here.
+    /// Takes the name `word`, if it stands here.
     pub(crate) fn take_word(&mut self, word: &str) -> bool {
         match name_run(self.rest) {
             Some((name, rest)) if name == word => {
@@ -106,7 +106,7 @@ impl<'a> Cursor<'a> {
         }
     }
 
-    /// Takes this name, which says what comes next.
+    /// Takes the name `word`, or refuses the line.
     pub(crate) fn keyword(&mut self, word: &str) -> Result<(), Refusal> {
         if self.take_word(word) {
             return Ok(());
@@ -114,7 +114,7 @@ impl<'a> Cursor<'a> {
         self.fail(word)
     }
 
-    /// Takes a name.
+    /// Takes a name, or refuses the line.
     pub(crate) fn name(&mut self, expected: &str) -> Result<&'a str, Refusal> {
         let Some((name, rest)) = name_run(self.rest) else {
             return self.fail(expected);
@@ -133,7 +133,7 @@ impl<'a> Cursor<'a> {
         number_run(self.rest).is_some()
     }
 
-    /// The end of the line, in which no unknown is strange.
+    /// Refuses the line if it does not end here, or if one of its unknowns is strange.
     pub(crate) fn end(&self) -> Result<(), Refusal> {
         if !self.is_done() {
             return self.fail("the end of the line");

@@ -1,4 +1,4 @@
-//! What is told if something else was expected.
+//! Faults of a line in which something else was expected.
 
 use crate::bytes::{Kind, cut, name_run, run, text_of};
 use crate::cursors::Cursor;
@@ -50,7 +50,7 @@ fn is_decimal_point(rest: &[u8]) -> bool {
     }
 }
 
-// What may be done about what stands here, if it is one of the usual slips.
+// The hint for a usual slip, if one stands here.
 fn hint_at(rest: &[u8], after_quote: bool) -> Option<&'static str> {
     let letter = first_letter(rest)?;
     if is_quote(letter) {
@@ -73,12 +73,12 @@ fn hint_at(rest: &[u8], after_quote: bool) -> Option<&'static str> {
 }
 
 impl<'a> Cursor<'a> {
-    /// The place of a byte of the line, in characters.
+    /// The place of the byte at `at`, in characters from the beginning of the line.
     pub(crate) fn column(&self, at: usize) -> usize {
         text_of(cut(self.line, at).0).chars().count()
     }
 
-    /// Refuses what stood at a place, in these words and with this hint, if there was memory for both.
+    /// Refuses the line for the token at `at`, with these words and this hint.
     pub(crate) fn refuse<T>(
         &self,
         status: Status,
@@ -96,13 +96,13 @@ impl<'a> Cursor<'a> {
         }))
     }
 
-    /// Refuses what stood at a place as one that cannot be read, with a hint if it is not empty.
+    /// Refuses the line because the token at `at` cannot be read. An empty hint means none.
     pub(crate) fn unread<T>(&self, at: usize, words: &str, hint: &str) -> Result<T, Refusal> {
         let words = String::from_str(self.alloc, words);
         self.refuse(Status::Unread, at, words, self.hint(hint))
     }
 
-    /// The hint; none if it is empty.
+    /// A copy of the hint; None if it is empty.
     pub(crate) fn hint(&self, hint: &str) -> Result<Option<String>, AllocError> {
         if hint.is_empty() {
             return Ok(None);
@@ -110,13 +110,13 @@ impl<'a> Cursor<'a> {
         Ok(Some(String::from_str(self.alloc, hint)?))
     }
 
-    /// Something else was expected here.
+    /// Refuses the token here in the place of what was expected, with a hint for a usual slip.
     pub(crate) fn fail<T>(&self, expected: &str) -> Result<T, Refusal> {
         let hint = hint_at(self.rest, self.is_after_quote()).unwrap_or("");
         self.fail_with(expected, hint)
     }
 
-    /// Something else was expected here, and this may be done about it.
+    /// Refuses the token here in the place of what was expected, with this hint.
     pub(crate) fn fail_with<T>(&self, expected: &str, hint: &str) -> Result<T, Refusal> {
         let mut words = Text::new(self.alloc);
         write!(words, "expected {expected}");
@@ -129,7 +129,7 @@ impl<'a> Cursor<'a> {
         self.refuse(Status::Unread, self.at(), words.done(), self.hint(hint))
     }
 
-    // The run of letters, digits and `_` here, or the one character.
+    // Adds the letters, digits and `_` that stand here, or the one character.
     fn add_found(&self, words: &mut Text) {
         let (name, _) = run(self.rest, Kind::Name);
         if !name.is_empty() {

@@ -9,7 +9,7 @@ use std::alloc::Global;
 use ws_fault::Refusal;
 use ws_written::{Drawn, Head, Image, Waiting};
 
-/// What a line says, its first word and the rest, is added to the head.
+/// Adds the content of a line to the head. The line comes as its first word and the rest.
 pub(crate) fn add_line(
     alloc: Global,
     head: &mut Head,
@@ -40,13 +40,13 @@ pub(crate) fn add_line(
     }
 }
 
-// The line is an item of the list.
+// Adds the line to the list, as one item.
 fn add<T: Item>(cursor: &mut Cursor<'_>, list: &mut Vec<T>) -> Result<(), Refusal> {
     list.push(cursor.last()?)?;
     Ok(())
 }
 
-// `TIME CURATOR LINE`.
+// Adds an update that waits, from `TIME CURATOR LINE`.
 fn add_waiting(
     alloc: Global,
     names: Names<'_>,
@@ -68,7 +68,7 @@ fn add_waiting(
     Ok(())
 }
 
-// The last update that waits; its number is taken.
+// Takes the number of an update, which must be the last one that waits, and returns that one.
 fn above<'w>(
     cursor: &mut Cursor<'_>,
     waiting: &'w mut [Waiting],

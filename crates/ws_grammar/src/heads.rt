@@ -7,7 +7,7 @@ use crate::stamps::stamp_of;
 use std::alloc::{AllocError, Global};
 use ws_written::{Head, Stamp};
 
-/// The head of a text, if it is one.
+/// Reads a head. None if the text is not one.
 pub fn read_head(alloc: Global, text: &[u8]) -> Result<Option<Head>, AllocError> {
     let Ok(text) = str::from_utf8(text) else {
         return Ok(None);
@@ -30,7 +30,7 @@ pub fn read_head(alloc: Global, text: &[u8]) -> Result<Option<Head>, AllocError>
     filled_head(alloc, empty_head(alloc, created, last, at), rest)
 }
 
-// The head with what its lines say, if they can be read.
+// The head with the content of its lines; None if one of them cannot be read.
 fn filled_head(alloc: Global, mut head: Head, lines: &str) -> Result<Option<Head>, AllocError> {
     match read_lines(alloc, &mut head, lines) {
         Ok(true) => Ok(Some(head)),
@@ -65,7 +65,7 @@ fn empty_head(alloc: Global, created: Stamp, last: u32, at: u32) -> Head {
     }
 }
 
-// Whether the lines could be read; what they say stands in the head then.
+// Adds the lines to the head, and tells whether all of them could be read.
 fn read_lines(alloc: Global, head: &mut Head, lines: &str) -> Result<bool, AllocError> {
     if lines.is_empty() {
         return Ok(true);

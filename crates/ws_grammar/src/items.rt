@@ -1,15 +1,15 @@
-//! What stands in lists.
+//! Items of a line, and lists of items.
 
 use crate::cursors::Cursor;
 use ws_fault::Refusal;
 
-/// What can be read at a place of a line.
+/// Something that can be read at a place of a line.
 pub(crate) trait Item: Drop + Sized {
     fn read(cursor: &mut Cursor<'_>) -> Result<Self, Refusal>;
 }
 
 impl<'a> Cursor<'a> {
-    /// Items between commas, one or more. There is no room for more in the list.
+    /// One item or more, with commas between them. The list has no spare room.
     pub(crate) fn joined<T: Item>(&mut self) -> Result<Vec<T>, Refusal> {
         let mut items = Vec::new(self.alloc);
         for _ in 0..u64::MAX {
@@ -22,7 +22,7 @@ impl<'a> Cursor<'a> {
         Ok(items)
     }
 
-    /// Items up to a closing bracket, one or more. There is no room for more in the list.
+    /// One item or more, up to a closing bracket. The list has no spare room.
     pub(crate) fn to_bracket<T: Item>(&mut self) -> Result<Vec<T>, Refusal> {
         let mut items = Vec::new(self.alloc);
         for _ in 0..u64::MAX {
@@ -35,7 +35,7 @@ impl<'a> Cursor<'a> {
         Ok(items)
     }
 
-    /// After an item between brackets: whether the list ends here.
+    /// Takes the comma or the bracket after an item, and tells whether the list ends.
     pub(crate) fn closes(&mut self) -> Result<bool, Refusal> {
         if self.take_sign(")") {
             return Ok(true);

@@ -1,10 +1,10 @@
-//! The names that there are, as they are told if a name is none of them.
+//! The hint for a name that is not known.
 
 use std::alloc::{AllocError, Global};
 use ws_fault::Nearest;
 use ws_print::Text;
 
-/// The names that there are as a list, and the nearest of them to a wrong one.
+/// The known names as a list, and the one nearest to a wrong name.
 #[derive(Drop)]
 pub(crate) struct Known<'a> {
     nearest: Nearest<'a>,
@@ -14,7 +14,7 @@ pub(crate) struct Known<'a> {
 }
 
 impl<'a> Known<'a> {
-    /// No name yet. The list has some words in front of its first name, and others between two names.
+    /// A list without names, for the name `wrong`. `first` stands in front of the first name, `between` between two names.
     pub(crate) fn to(
         alloc: Global,
         wrong: &str,
@@ -29,7 +29,7 @@ impl<'a> Known<'a> {
         })
     }
 
-    /// A name more.
+    /// Adds a name.
     pub(crate) fn add(&mut self, name: &'a str) -> Result<(), AllocError> {
         let front = if self.list.is_empty() {
             self.first
@@ -41,7 +41,7 @@ impl<'a> Known<'a> {
         self.nearest.consider(name)
     }
 
-    /// As a hint: the question whether the nearest name was meant, or the list if none is near.
+    /// The hint: the question whether the nearest name was meant, or the list if none is near.
     pub(crate) fn hint(self) -> Result<Option<String>, AllocError> {
         match self.nearest.question()? {
             None => Ok(Some(self.list.done()?)),
@@ -50,7 +50,7 @@ impl<'a> Known<'a> {
     }
 }
 
-/// Whether a name is one of these.
+/// Whether `name` is one of `names`.
 pub fn has_name(names: &[String], name: &str) -> bool {
     for other in names {
         if other.as_str() == name {

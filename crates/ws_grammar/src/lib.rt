@@ -1,10 +1,10 @@
-//! From text to commands and to what a workspace's file says, with exact faults.
+//! Reads commands, with exact faults, and the records of a workspace's file.
 //!
-//! `read_command` reads a line of commands over the names that stand: the first fault from the left is told, with its
-//! place, a hint, and the name that may have been meant. `read_stamp`, `read_line` and `read_head` read what a file has; a text
-//! that is not what the program writes is no record, line or head, and no more is said of it.
+//! `read_command` reads the command of a line over the names that stand. Its error is the first fault from the left, with its
+//! place and a hint, which may be the name that was meant. `read_stamp`, `read_line` and `read_head` read the parts of a file.
+//! For a text that the program does not write they return None, without a fault.
 //!
-//! A loop that reads items runs at most 2^64 times, and each turn takes a byte or more or is the last.
+//! A loop that reads items is bounded by 2^64 turns. It never gets there: each turn takes a byte or more, or is the last.
 #![tactic(auto)]
 
 mod answers;

@@ -8,7 +8,7 @@ use ws_command::{Change, Load, Opt, Source, Verb};
 use ws_fault::Refusal;
 
 impl<'a> Cursor<'a> {
-    /// What stands after `load`.
+    /// The change that the rest of a `load` asks for.
     pub(crate) fn load_change(&mut self) -> Result<Changed, Refusal> {
         let relation = self.owned_name("a relation")?;
         let here = self.rest;
@@ -21,7 +21,7 @@ impl<'a> Cursor<'a> {
         Ok((Change::Load(load), still))
     }
 
-    // Where the rows come from: a file that stood here, or so many lines of the input.
+    // The source of the rows: the file that stood at `here`, or the next lines of the input.
     fn source(
         &mut self,
         here: &'a [u8],
@@ -42,7 +42,7 @@ impl<'a> Cursor<'a> {
         }
     }
 
-    // The file, if no option stands here.
+    // The path of the file; None if an option stands here.
     fn load_path(&mut self) -> Result<Option<String>, Refusal> {
         if option_run(self.rest).is_some() {
             return Ok(None);

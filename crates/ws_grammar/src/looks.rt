@@ -1,4 +1,4 @@
-//! Commands that look.
+//! Commands that only look.
 
 use crate::cursors::Cursor;
 use crate::items::Item;
@@ -7,7 +7,7 @@ use ws_fault::Refusal;
 use ws_written::{Atom, Unknown};
 
 impl<'a> Cursor<'a> {
-    /// What stands after a verb that looks.
+    /// The look that a verb and the rest of its line ask for.
     pub(crate) fn look(&mut self, verb: Verb) -> Result<Look, Refusal> {
         match verb {
             Verb::Show => self.show(),
@@ -33,7 +33,7 @@ impl<'a> Cursor<'a> {
         Ok(options.take_word(Opt::To))
     }
 
-    // Tables and atoms, with commas between them or without.
+    // Tables and atoms, with or without commas between them.
     fn all_shown(&mut self) -> Result<Vec<Shown>, Refusal> {
         let mut all = Vec::new(self.alloc);
         for _ in 0..u64::MAX {

@@ -7,11 +7,11 @@ use std::alloc::{AllocError, Global};
 use std::collections::BTreeSet;
 use ws_fault::{Refusal, Status};
 
-/// The most numbers that a list may stand for.
+/// The greatest number of numbers that a list may stand for.
 const MOST: usize = 1_000_001;
 
 impl<'a> Cursor<'a> {
-    /// A number from the lowest to the highest.
+    /// A number from `low` to `high`.
     pub(crate) fn number(&mut self, expected: &str, low: i64, high: i64) -> Result<i64, Refusal> {
         let Some((text, rest)) = number_run(self.rest) else {
             return self.fail(expected);
@@ -26,7 +26,7 @@ impl<'a> Cursor<'a> {
         self.refuse(Status::Unread, self.at(), words, Ok(None))
     }
 
-    /// A number without a sign, from the lowest to the highest.
+    /// A number without a sign, from `low` to `high`.
     pub(crate) fn count(&mut self, expected: &str, low: u32, high: u32) -> Result<u32, Refusal> {
         let number = self.number(expected, i64::from(low), i64::from(high))?;
         Ok(u32::try_from(number).unwrap_or(high))
@@ -67,7 +67,7 @@ impl<'a> Cursor<'a> {
         Ok(())
     }
 
-    /// Numbers of updates, each once, in the order in which they stand first.
+    /// Numbers of updates, without repetitions, in the order in which each stands first.
     pub(crate) fn distinct_numbers(&mut self) -> Result<Vec<u32>, Refusal> {
         let numbers = self.numbers()?;
         Ok(each_once(self.alloc, numbers.as_slice())?)

@@ -8,7 +8,7 @@ use ws_command::{Bounds, Opt, OptKind, Verb};
 use ws_fault::{Refusal, Status};
 use ws_written::STEPS;
 
-// An option with the number or the word that was given after it, if it takes one.
+// An option with the number or the word after it; 0 and None if it takes none.
 #[derive(Drop)]
 struct Given {
     opt: Opt,
@@ -41,7 +41,7 @@ impl Options {
         Some(self.given(opt)?.number)
     }
 
-    /// The budget: that of `--steps`, or the usual one.
+    /// The budget of `--steps`, or the usual one.
     pub(crate) fn steps(&self) -> u32 {
         self.number(Opt::Steps).unwrap_or(STEPS)
     }
@@ -51,7 +51,7 @@ impl Options {
         self.number(Opt::Still)
     }
 
-    /// How far an update may go.
+    /// The bounds of the update.
     pub(crate) fn bounds(&self) -> Bounds {
         Bounds {
             only: self.has(Opt::Only),
@@ -60,7 +60,7 @@ impl Options {
         }
     }
 
-    /// Takes the word of an option out.
+    /// Takes out the word of an option.
     pub(crate) fn take_word(&mut self, opt: Opt) -> Option<String> {
         for given in self.given.iter_mut() {
             if given.opt == opt {
@@ -71,7 +71,7 @@ impl Options {
     }
 }
 
-// The option of this name, among those that a verb takes. `--sqlite` is not among those that are told.
+// The option of a verb with this name. `--sqlite` of `export` is not in the list of options that hints show.
 fn option_named(verb: Verb, name: &str) -> Option<Opt> {
     if verb == Verb::Export && name == Opt::Sqlite.name() {
         return Some(Opt::Sqlite);
@@ -85,7 +85,7 @@ fn option_named(verb: Verb, name: &str) -> Option<Opt> {
 }
 
 impl<'a> Cursor<'a> {
-    /// The options of a verb, up to the end of the line.
+    /// Reads the options of a verb, up to the end of the line.
     pub(crate) fn options(&mut self, verb: Verb) -> Result<Options, Refusal> {
         let mut options = Options {
             given: Vec::new(self.alloc),
@@ -100,7 +100,7 @@ impl<'a> Cursor<'a> {
         Ok(options)
     }
 
-    // An option that was not given yet.
+    // Reads an option, and refuses one that was given already.
     fn option(&mut self, verb: Verb, options: &Options) -> Result<Given, Refusal> {
         let Some((name, rest)) = option_run(self.rest) else {
             return self.fail("the end of the line");
@@ -116,7 +116,7 @@ impl<'a> Cursor<'a> {
         self.given(opt)
     }
 
-    // No option of a verb has this name.
+    // Refuses a name that no option of the verb has.
     fn no_option(&self, verb: Verb, name: &str) -> Result<Given, Refusal> {
         let word = verb.word();
         let words = format!(in self.alloc; "{word} has no option --{name}");
@@ -124,7 +124,7 @@ impl<'a> Cursor<'a> {
         self.refuse(Status::Unread, self.at(), words, hint)
     }
 
-    // Which option may have been meant, or those that there are.
+    // The hint: the option that may have been meant, or a list of all.
     fn option_hint(&self, verb: Verb, name: &str) -> Result<Option<String>, AllocError> {
         if verb.options().is_empty() {
             return self.hint("it has none");
@@ -136,7 +136,7 @@ impl<'a> Cursor<'a> {
         known.hint()
     }
 
-    // An option with what stands after it.
+    // The option with the number or the word after it.
     fn given(&mut self, opt: Opt) -> Result<Given, Refusal> {
         let (number, word) = match opt.kind() {
             OptKind::Flag => (0, None),

@@ -27,7 +27,7 @@ impl Item for String {
 }
 
 impl<'a> Cursor<'a> {
-    // A query without a head: it has all variables, by their first places.
+    // A query without a head. Its head has all variables, in the order of their first places.
     fn bare_query(&mut self) -> Result<Asked, Refusal> {
         let at = self.at();
         let atoms: Vec<Atom> = self.joined()?;
@@ -49,7 +49,7 @@ impl<'a> Cursor<'a> {
         Ok(Asked { head, atoms })
     }
 
-    // Each name of the head, which stands at a place, is a variable of an atom.
+    // Refuses the head, which stands at `at`, if one of its names is no variable of an atom.
     fn stand_in(&self, at: usize, head: &[String], atoms: &[Atom]) -> Result<(), Refusal> {
         let variables = variables_of(self.alloc, atoms)?;
         for name in head {
@@ -60,7 +60,7 @@ impl<'a> Cursor<'a> {
         Ok(())
     }
 
-    // A name of the head, which stands at a place, is none of the variables.
+    // Refuses a name of the head, which stands at `at`, because it is none of the variables.
     fn no_variable(&self, at: usize, variables: &[String], name: &str) -> Result<(), Refusal> {
         let mut nearest = Nearest::to(self.alloc, name)?;
         for variable in variables {
@@ -75,13 +75,13 @@ fn after_white(bytes: &[u8]) -> &[u8] {
     text_of(bytes).trim_start_matches(is_white).as_bytes()
 }
 
-// What stands after the bracket that closes the one here, with no other between.
+// The bytes after a pair of brackets that begins here and has no bracket inside.
 fn after_brackets(bytes: &[u8]) -> Option<&[u8]> {
     let (_, rest) = run(bytes.strip_prefix(b"(")?, Kind::Unbracketed);
     rest.strip_prefix(b")")
 }
 
-// Whether a query begins with a head: `NAME(..):`.
+// Whether a query with a head, `NAME(..):`, begins here.
 fn has_head(rest: &[u8]) -> bool {
     let Some((_, after)) = name_run(rest) else {
         return false;
@@ -92,7 +92,7 @@ fn has_head(rest: &[u8]) -> bool {
     }
 }
 
-// The variables of atoms but `_`, by their first places.
+// The variables of atoms other than `_`, in the order of their first places.
 fn variables_of(alloc: Global, atoms: &[Atom]) -> Result<Vec<String>, AllocError> {
     let mut names = Vec::new(alloc);
     for atom in atoms {

@@ -52,7 +52,7 @@ impl<'a> Cursor<'a> {
         Ok(Line::Undo(numbers))
     }
 
-    // Numbers of updates that rise, `N, N..M, ..`.
+    // Rising numbers of updates, `N, N..M, ..`.
     fn rising(&mut self) -> Result<Vec<u32>, Refusal> {
         let numbers = self.numbers()?;
         if rise(numbers.as_slice()) {
@@ -73,7 +73,7 @@ fn rise(numbers: &[u32]) -> bool {
     true
 }
 
-/// What was read, if it could be; a fault is no more than that it could not.
+/// The result of reading, with None in the place of a fault.
 pub(crate) fn readable<T: Drop>(read: Result<T, Refusal>) -> Result<Option<T>, AllocError> {
     match read {
         Ok(read) => Ok(Some(read)),
@@ -82,7 +82,7 @@ pub(crate) fn readable<T: Drop>(read: Result<T, Refusal>) -> Result<Option<T>, A
     }
 }
 
-/// The stamp of a record's text, and the text of its lines, if it has both.
+/// Reads the stamp of a record's text, and returns it with the text of the lines. None if the text does not have both.
 pub fn read_stamp(alloc: Global, text: &[u8]) -> Result<Option<(Stamp, &str)>, AllocError> {
     let Ok(text) = str::from_utf8(text) else {
         return Ok(None);
@@ -96,7 +96,7 @@ pub fn read_stamp(alloc: Global, text: &[u8]) -> Result<Option<(Stamp, &str)>, A
     }
 }
 
-/// A line of a record over the relations that stand before it, if it is one.
+/// Reads a line of a record, over the relations that stand before the line. None if the text is not a line.
 pub fn read_line(
     alloc: Global,
     relations: &[Relation],

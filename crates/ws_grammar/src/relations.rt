@@ -1,4 +1,4 @@
-//! Relations as they are declared.
+//! Declarations of relations.
 
 use crate::cursors::Cursor;
 use crate::items::Item;
@@ -7,10 +7,10 @@ use std::alloc::Global;
 use ws_fault::{Refusal, Status};
 use ws_written::{Column, Relation};
 
-/// The most columns of a relation.
+/// The greatest number of columns of a relation.
 const MOST: usize = 8;
 
-// A relation that is declared.
+// The declaration of a relation.
 impl Item for Relation {
     fn read(cursor: &mut Cursor<'_>) -> Result<Relation, Refusal> {
         let name = cursor.plain_name("a name of the relation")?;
@@ -19,13 +19,12 @@ impl Item for Relation {
     }
 }
 
-/// The relation that a text declares: `NAME(COLUMN, ..)` or `NAME K`. It is refused for its first fault from the left, or for
-/// want of memory.
+/// Reads the relation that a text declares, `NAME(COLUMN, ..)` or `NAME K`. A fault is the first one from the left.
 pub fn read_relation(alloc: Global, text: &str) -> Result<Relation, Refusal> {
     Cursor::over(alloc, Names::of(&[]), text).last()
 }
 
-// Whether one of the columns has this name, but for capitals.
+// Whether one of the columns has this name; capitals do not matter.
 fn has_column(columns: &[Column], name: &str) -> bool {
     for column in columns {
         if column.name.as_str().eq_ignore_ascii_case(name) {
@@ -53,7 +52,7 @@ impl<'a> Cursor<'a> {
         Ok(columns)
     }
 
-    // So many columns: c1, c2, ..
+    // The columns `c1`, `c2`, .. of a declaration that gives only their number.
     fn counted_columns(&mut self) -> Result<Vec<Column>, Refusal> {
         let count = self.count("columns", 1, 8)?;
         let mut columns = Vec::new(self.alloc);
@@ -76,7 +75,7 @@ impl<'a> Cursor<'a> {
         Ok(columns)
     }
 
-    // A column whose name differs from those before by more than capitals.
+    // Reads a column, whose name must differ from the names before it by more than capitals.
     fn column_after(&mut self, before: &[Column]) -> Result<Column, Refusal> {
         let at = self.at();
         let name = self.plain_name("a column")?;

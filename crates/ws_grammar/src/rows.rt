@@ -1,8 +1,8 @@
-//! How many lines of the input belong to a line.
+//! The number of lines of the input that belong to a line.
 
 use crate::bytes::{Kind, after_blanks, is_blank, name_run, option_run, run, text_of};
 
-// What stands after the text between quotes that begins here; None if it is not closed.
+// The bytes after the text in quotes that begins here. None if there is none or it is not closed.
 fn after_text(bytes: &[u8]) -> Option<&[u8]> {
     let mut rest = bytes.strip_prefix(b"\"")?;
     for _ in 0..u64::MAX {
@@ -16,7 +16,7 @@ fn after_text(bytes: &[u8]) -> Option<&[u8]> {
     None
 }
 
-// What stands after `load` or `try load`.
+// The bytes after `load` or `try load`.
 fn after_load(line: &[u8]) -> Option<&[u8]> {
     let (word, rest) = name_run(after_blanks(line))?;
     if word == "load" {
@@ -41,7 +41,7 @@ fn lines_here(bytes: &[u8]) -> Option<u64> {
     Some(text_of(digits).parse::<u64>().unwrap_or(u64::MAX))
 }
 
-// What stands after the token here.
+// The bytes after the token here.
 fn after_token(bytes: &[u8]) -> &[u8] {
     if let Some(rest) = after_text(bytes) {
         return rest;
@@ -52,8 +52,8 @@ fn after_token(bytes: &[u8]) -> &[u8] {
     run(bytes, Kind::Unblank).1
 }
 
-/// How many of the next lines of the input belong to this one, also if it is refused: those of `load .. --lines N` or
-/// `try load .. --lines N`, outside texts and comments; else 0.
+/// The number of lines of the input after this one that belong to it, even if it is refused: N for `load .. --lines N` and
+/// `try load .. --lines N`, if the option stands outside texts and comments; otherwise 0.
 pub fn lines_of(line: &str) -> u64 {
     let Some(mut rest) = after_load(line.as_bytes()) else {
         return 0;

@@ -29,7 +29,7 @@ pub fn is_time(text: &str) -> bool {
     true
 }
 
-// Whether a byte may stand where the form of a time has this one.
+// Whether a byte may stand in the place of `form`, a byte of the form of a time.
 fn fits(byte: u8, form: u8) -> bool {
     if form == b'd' {
         return byte.is_ascii_digit();
@@ -37,7 +37,7 @@ fn fits(byte: u8, form: u8) -> bool {
     byte == form
 }
 
-/// The stamp of two texts, if they are a time and a name.
+/// The stamp of a time and a name. None if the texts are not such.
 pub(crate) fn stamp_of(
     alloc: Global,
     time: &str,
@@ -52,7 +52,7 @@ pub(crate) fn stamp_of(
     }))
 }
 
-/// The stamp of a record's first line: `TIME CURATOR`; further words are for later and are passed over.
+/// The stamp of a record's first line, `TIME CURATOR`. Further words, which later versions may write, are ignored.
 pub(crate) fn record_stamp(alloc: Global, line: &str) -> Result<Option<Stamp>, AllocError> {
     let (time, rest) = cut_at(line, ' ');
     let (curator, _) = cut_at(rest, ' ');

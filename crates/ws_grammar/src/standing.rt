@@ -7,8 +7,7 @@ use ws_fault::{Refusal, Status};
 use ws_print::{Text, add_count, add_form};
 use ws_written::Relation;
 
-/// The names that a command may use: the relations in the order of their declaration, and the mappings that are not
-/// gone.
+/// The names that a command may use: the relations in the order of their declaration, and the mappings that were not dropped.
 #[derive(Clone, Copy)]
 pub struct Names<'a> {
     pub relations: &'a [Relation],
@@ -16,7 +15,7 @@ pub struct Names<'a> {
 }
 
 impl<'a> Names<'a> {
-    /// Those of relations alone.
+    /// Names of relations, without mappings.
     pub(crate) fn of(relations: &'a [Relation]) -> Names<'a> {
         Names {
             relations,
@@ -35,7 +34,7 @@ pub fn place_of(relations: &[Relation], name: &str) -> Option<usize> {
     None
 }
 
-// What may be done if there is no such relation.
+// The hint if no relation has this name.
 fn relation_hint(
     alloc: Global,
     relations: &[Relation],
@@ -51,7 +50,7 @@ fn relation_hint(
     known.hint()
 }
 
-// What may be done if there is no such mapping.
+// The hint if no mapping has this name.
 fn mapping_hint(
     alloc: Global,
     mappings: &[String],
@@ -68,14 +67,14 @@ fn mapping_hint(
 }
 
 impl<'a> Cursor<'a> {
-    /// A relation by its name.
+    /// Takes the name of a relation, and returns the relation's number.
     pub(crate) fn relation(&mut self) -> Result<u32, Refusal> {
         let at = self.at();
         let name = self.name("a relation")?;
         self.relation_at(at, name)
     }
 
-    // The relation whose name stood at a place.
+    // The number of the relation whose name stood at `at`.
     fn relation_at(&self, at: usize, name: &str) -> Result<u32, Refusal> {
         if let Some(place) = place_of(self.names.relations, name) {
             return Ok(u32::try_from(place).unwrap_or(u32::MAX));
@@ -85,7 +84,7 @@ impl<'a> Cursor<'a> {
         self.refuse(Status::Refused, at, words, hint)
     }
 
-    /// The relation whose name stood at a place, in front of so many values or terms.
+    /// The number of the relation whose name stood at `at`, in front of `found` values or terms.
     pub(crate) fn relation_of(&self, at: usize, name: &str, found: usize) -> Result<u32, Refusal> {
         let number = self.relation_at(at, name)?;
         match self.names.relations.get(number as usize) {
@@ -94,7 +93,7 @@ impl<'a> Cursor<'a> {
         }
     }
 
-    // The relation at a place does not have so many columns.
+    // Refuses `found` values or terms for a relation with another number of columns.
     fn misfit(&self, at: usize, relation: &Relation, found: usize) -> Result<u32, Refusal> {
         let mut form = Text::from_str(self.alloc, "it is ");
         add_form(&mut form, relation);
@@ -106,7 +105,7 @@ impl<'a> Cursor<'a> {
         self.refuse(Status::Refused, at, words.done(), Ok(Some(form)))
     }
 
-    /// The name of a mapping that is there.
+    /// Takes the name of a known mapping.
     pub(crate) fn mapping(&mut self) -> Result<String, Refusal> {
         let at = self.at();
         let name = self.name("a mapping")?;
@@ -118,7 +117,7 @@ impl<'a> Cursor<'a> {
         self.refuse(Status::Refused, at, words, hint)
     }
 
-    /// A name for a relation, a column or a mapping: none that is kept for the program.
+    /// Takes a new name for a relation, a column or a mapping, and refuses names that are kept for the program.
     pub(crate) fn plain_name(&mut self, expected: &str) -> Result<String, Refusal> {
         let at = self.at();
         let name = self.name(expected)?;

@@ -5,14 +5,14 @@ use crate::cursors::Cursor;
 use std::alloc::AllocError;
 use ws_fault::{Refusal, Status};
 
-/// The most bytes of a text.
+/// The greatest number of bytes in a text.
 const MOST: usize = 256;
 
 const CLOSE: &str = "it ends with a \" on the same line";
 
 const ESCAPES: &str = "a backslash is followed by one of \" \\ n u{..}";
 
-// The hexadecimal digits of `\u{HEX}` after its brace, one to six, and what stands after the closing one.
+// The one to six hexadecimal digits of `\u{HEX}`, and the bytes after the closing brace. The bytes begin after the opening one.
 fn hex_run(bytes: &[u8]) -> Option<(&str, &[u8])> {
     let (digits, rest) = run(bytes, Kind::HexDigit);
     let rest = rest.strip_prefix(b"}")?;
@@ -22,7 +22,7 @@ fn hex_run(bytes: &[u8]) -> Option<(&str, &[u8])> {
     Some((text_of(digits), rest))
 }
 
-// The character of these hexadecimal digits; not U+0000.
+// The character of these hexadecimal digits. None for U+0000.
 fn letter_of(digits: &str) -> Option<char> {
     let code = u32::from_str_radix(digits, 16).ok()?;
     if code == 0 {
@@ -38,7 +38,7 @@ fn add_letter(bytes: &mut Vec<u8>, letter: char) -> Result<(), AllocError> {
 }
 
 impl<'a> Cursor<'a> {
-    /// A text between quotes, of which the first stands here.
+    /// Takes a text between quotes; the opening quote stands here.
     pub(crate) fn text(&mut self) -> Result<String, Refusal> {
         let open = self.at();
         let mut bytes = Vec::new(self.alloc);
@@ -58,12 +58,12 @@ impl<'a> Cursor<'a> {
         self.closed_text(open, bytes)
     }
 
-    // Goes on after some bytes, where a text does not end.
+    // Passes over `count` bytes inside a text, where blanks and `#` are part of the text.
     fn pass(&mut self, count: usize) {
         self.rest = cut(self.rest, count).1;
     }
 
-    // The text that was read between quotes, of which the second stands here.
+    // Takes the closing quote, and returns the text that was read before it.
     fn closed_text(&mut self, open: usize, bytes: Vec<u8>) -> Result<String, Refusal> {
         let length = bytes.len();
         if MOST < length {
@@ -78,7 +78,7 @@ impl<'a> Cursor<'a> {
         }
     }
 
-    // What a backslash and what follows it stand for.
+    // Takes an escape, and adds the bytes that it stands for.
     fn escape(&mut self, bytes: &mut Vec<u8>) -> Result<(), Refusal> {
         let letter = match self.rest {
             [_, b'"', ..] => b'"',
@@ -104,7 +104,7 @@ impl<'a> Cursor<'a> {
         Ok(())
     }
 
-    /// A text, or what stands up to the next blank.
+    /// Takes a text between quotes, or a word up to the next blank.
     pub(crate) fn word(&mut self, expected: &str) -> Result<String, Refusal> {
         if self.is_sign("\"") {
             return self.text();

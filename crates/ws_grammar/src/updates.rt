@@ -22,7 +22,7 @@ impl Item for NumberedUpdate {
     }
 }
 
-// `CHOICE to NAME FACT, ..`, after the verb and the number of an answer.
+// `CHOICE to NAME FACT, ..`, the part of an answer after its verb and its number.
 impl Item for Answer {
     fn read(cursor: &mut Cursor<'_>) -> Result<Answer, Refusal> {
         let choice = cursor.chosen()?;
@@ -49,7 +49,7 @@ impl<'a> Cursor<'a> {
         }
     }
 
-    /// `with` and an item.
+    /// Takes `with` and an item.
     pub(crate) fn with<T: Item>(&mut self) -> Result<T, Refusal> {
         self.keyword("with")?;
         T::read(self)

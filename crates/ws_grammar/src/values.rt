@@ -14,7 +14,7 @@ const ANY: &str = "_ stands for any value in delete, replace, why and show";
 
 const WRITE_NEW: &str = "a new unknown is written ?";
 
-// Whether a bare word is one that elsewhere stands for what is not known.
+// Whether a bare word stands for an unknown value in other languages.
 fn is_null_word(word: &str) -> bool {
     word.eq_ignore_ascii_case("null")
         || word.eq_ignore_ascii_case("none")
@@ -23,7 +23,7 @@ fn is_null_word(word: &str) -> bool {
         || word.eq_ignore_ascii_case("unknown")
 }
 
-// The name of a new unknown after `?`, empty if it has none, and what stands after it; None if a digit follows.
+// The name of a new unknown, empty if it has none, and the rest. None if there is no `?` here or a digit follows it.
 fn new_run(bytes: &[u8]) -> Option<(&str, &[u8])> {
     let (name, rest) = run(bytes.strip_prefix(b"?")?, Kind::Name);
     match name {
@@ -32,13 +32,13 @@ fn new_run(bytes: &[u8]) -> Option<(&str, &[u8])> {
     }
 }
 
-// The digits without the zeros in front.
+// The digits without leading zeros.
 fn bare_digits(digits: &str) -> &str {
     let bare = digits.trim_start_matches('0');
     if bare.is_empty() { "0" } else { bare }
 }
 
-// The name of an unknown, if its numbers have 32 bits.
+// The name of an unknown. None if one of its numbers has more than 32 bits.
 fn unknown_of(update: &str, place: &str) -> Option<Unknown> {
     let update = update.parse::<u32>().ok()?;
     let place = place.parse::<u32>().ok()?;
@@ -46,7 +46,7 @@ fn unknown_of(update: &str, place: &str) -> Option<Unknown> {
 }
 
 impl<'a> Cursor<'a> {
-    /// A number, a text, or an unknown by its name.
+    /// Takes a number, a text, or an unknown by its name.
     pub(crate) fn value(&mut self) -> Result<Value, Refusal> {
         if let Some((update, place, rest)) = unknown_run(self.rest) {
             let unknown = self.unknown(update, place);
@@ -70,7 +70,8 @@ impl<'a> Cursor<'a> {
         Ok(Value::Number(number))
     }
 
-    // The unknown of this name. If its numbers have more than 32 bits, it is no unknown, and that is told at the end of the line.
+    // The unknown of this name. If one of its numbers has more than 32 bits, no unknown has the name: the line is refused at
+    // its end.
     fn unknown(&mut self, update: &'a str, place: &'a str) -> Unknown {
         if let Some(unknown) = unknown_of(update, place) {
             return unknown;
@@ -84,7 +85,7 @@ impl<'a> Cursor<'a> {
         }
     }
 
-    /// Refuses a line with a strange unknown, which nothing has as its name.
+    /// Refuses a line with a strange unknown, because no unknown has that name.
     pub(crate) fn refuse_strange(&self) -> Result<(), Refusal> {
         let Some((update, place)) = self.strange else {
             return Ok(());
@@ -101,7 +102,7 @@ impl<'a> Cursor<'a> {
         }))
     }
 
-    // No value stands here.
+    // Refuses what stands here in the place of a value.
     fn no_value<T>(&self) -> Result<T, Refusal> {
         if self.is_sign("?") {
             return match new_run(self.rest) {
@@ -115,7 +116,7 @@ impl<'a> Cursor<'a> {
         }
     }
 
-    // What may be done about a bare word in the place of a value.
+    // The hint for a bare word in the place of a value.
     fn bare_hint(&self, word: &str) -> Result<String, AllocError> {
         if word == "_" {
             return String::from_str(self.alloc, ANY);

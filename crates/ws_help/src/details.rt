@@ -1,4 +1,4 @@
-//! What else the help tells of each verb.
+//! The details that the help page of a verb has.
 
 use ws_command::Verb;
 
@@ -106,7 +106,7 @@ const EXPORT: &str =
 const DUMP: &str = "  `youtopia serial --steps 300` makes the same tables of it.
 ";
 
-/// Further lines, each with two blanks in front and a line feed behind.
+/// The further lines of the help page, each with two blanks in front and a line feed at its end.
 pub fn details_of(verb: Verb) -> &'static str {
     match verb {
         Verb::Relation => RELATION,

@@ -1,4 +1,4 @@
-//! The help: what each command is for, in one table, and the pages made of it.
+//! The help: a table of the commands, and the pages made of it.
 #![tactic(auto)]
 
 mod details;

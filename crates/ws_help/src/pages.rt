@@ -1,4 +1,4 @@
-//! The pages of the help: of all verbs, and of one.
+//! The pages of the help: one for all verbs, and one for each verb.
 
 use crate::details::details_of;
 use crate::texts::{example_of, form_of, short_of};
@@ -6,11 +6,11 @@ use std::alloc::{AllocError, Global};
 use std::fmt::Write;
 use ws_command::Verb;
 
-/// How the program is called.
+/// The form of a call of the program.
 pub const USAGE: &str =
     "yt [--as NAME] [--json] [--wait SECONDS] [--keep-going] [--no-files] FILE [COMMAND ..]";
 
-/// The line that `--version` tells, without its end.
+/// The line that `--version` prints, without a line feed.
 pub const VERSION: &str = "yt 1";
 
 const RULES: [Verb; 4] = [Verb::Relation, Verb::Mapping, Verb::Adopt, Verb::Drop];
@@ -51,7 +51,7 @@ A value is a number, a \"text\", or an unknown such as ?12.1. # begins a comment
 Statuses: 0 done, 1 waits for an answer, 2 cannot be read, 3 refused, 4 violations, 5 a file cannot be read,
 6 cannot be written, 7 out of memory, 12 damaged, 13 nothing changed, 14 spent.";
 
-/// The help: of one verb, or of all. Lines, without a line feed behind the last. It is refused only for want of memory.
+/// The help page of one verb, or of all. There is no line feed after the last line.
 pub fn help_text(alloc: Global, verb: Option<Verb>) -> Result<String, AllocError> {
     match verb {
         Some(verb) => verb_text(alloc, verb),

@@ -1,8 +1,8 @@
-//! What the help tells of each verb.
+//! The form, a short text and an example for each verb.
 
 use ws_command::Verb;
 
-/// How the command is written.
+/// The form in which the command is written.
 pub fn form_of(verb: Verb) -> &'static str {
     match verb {
         Verb::Relation => "relation NAME(COLUMN, ..)",
@@ -34,7 +34,7 @@ pub fn form_of(verb: Verb) -> &'static str {
     }
 }
 
-/// What the command does, in some words.
+/// What the command does, in a few words.
 pub fn short_of(verb: Verb) -> &'static str {
     match verb {
         Verb::Relation => "declare a table",
@@ -67,7 +67,7 @@ pub fn short_of(verb: Verb) -> &'static str {
     }
 }
 
-/// An example.
+/// An example of the command.
 pub fn example_of(verb: Verb) -> &'static str {
     match verb {
         Verb::Relation => "relation Painting(title*, painter)",

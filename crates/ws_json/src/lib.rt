@@ -1,7 +1,7 @@
-//! Objects of JSON, one a line: compact, with rising keys.
+//! Objects of JSON, each on one line: without blanks, with rising keys.
 //!
-//! A thin layer over `serde_json`, whose maps are in the order of their keys. An object that is being filled keeps a want of memory:
-//! it comes out once, with the line of the object.
+//! This is a thin layer over `serde_json`, whose maps are in the order of their keys. The calls that add to an object return no
+//! error: it remembers a want of memory, and `into_line` returns it.
 #![tactic(auto)]
 
 mod objects;

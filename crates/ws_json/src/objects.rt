@@ -3,7 +3,7 @@
 use serde_json::{Map, Value};
 use std::alloc::{AllocError, Global};
 
-/// An object that is being filled. A want of memory is kept, and comes out with the object.
+/// An object that is being filled. It remembers a want of memory, and `into_line` returns it.
 #[derive(Drop)]
 pub struct Object {
     alloc: Global,
@@ -11,7 +11,7 @@ pub struct Object {
     lacks: bool,
 }
 
-/// A list that is being filled. A want of memory is kept, and comes out with the object that the list is put into.
+/// A list that is being filled. It remembers a want of memory, and passes it on to the object that it is put into.
 #[derive(Drop)]
 pub struct Items {
     alloc: Global,
@@ -20,7 +20,7 @@ pub struct Items {
 }
 
 impl Object {
-    /// The object without a member.
+    /// An object without members.
     pub fn new(alloc: Global) -> Object {
         Object {
             alloc,
@@ -29,7 +29,7 @@ impl Object {
         }
     }
 
-    // Puts a member there, in place of the one of its key.
+    // Puts in a member, in place of a member with the same key.
     fn put(&mut self, key: &str, value: Result<Value, AllocError>) {
         match value {
             Ok(value) => self.insert(key, value),
@@ -51,12 +51,12 @@ impl Object {
         }
     }
 
-    /// A text.
+    /// Puts in a text.
     pub fn text(&mut self, key: &str, text: &str) {
         self.put(key, Value::try_from_str(self.alloc, text));
     }
 
-    /// A text that was made, if there was memory for it.
+    /// Puts in the text of a call; an error counts as want of memory.
     pub fn made<E: Drop>(&mut self, key: &str, text: Result<String, E>) {
         match text {
             Ok(text) => self.insert(key, Value::String(text)),
@@ -64,32 +64,32 @@ impl Object {
         }
     }
 
-    /// A number with all its digits.
+    /// Puts in a number, with all its digits.
     pub fn number(&mut self, key: &str, number: i64) {
         self.insert(key, Value::from(number));
     }
 
-    /// Whether something is so.
+    /// Puts in `true` or `false`.
     pub fn flag(&mut self, key: &str, is: bool) {
         self.insert(key, Value::from(is));
     }
 
-    /// `null`: that there is none.
+    /// Puts in `null`, for a value that is not there.
     pub fn none(&mut self, key: &str) {
         self.insert(key, Value::Null);
     }
 
-    /// An object.
+    /// Puts in an object.
     pub fn object(&mut self, key: &str, object: Object) {
         self.put(key, object.into_value());
     }
 
-    /// A list.
+    /// Puts in a list.
     pub fn items(&mut self, key: &str, items: Items) {
         self.put(key, items.into_value());
     }
 
-    /// The object in a line, without a line feed.
+    /// The object as a line, without a line feed.
     pub fn into_line(self) -> Result<String, AllocError> {
         let alloc = self.alloc;
         match self.into_value() {
@@ -112,7 +112,7 @@ impl Object {
 }
 
 impl Items {
-    /// The list without an item.
+    /// A list without items.
     pub fn new(alloc: Global) -> Items {
         Items {
             alloc,
@@ -134,12 +134,12 @@ impl Items {
         }
     }
 
-    /// A text more.
+    /// Adds a text.
     pub fn text(&mut self, text: &str) {
         self.put(Value::try_from_str(self.alloc, text));
     }
 
-    /// A text more that was made, if there was memory for it.
+    /// Adds the text of a call; an error counts as want of memory.
     pub fn made<E: Drop>(&mut self, text: Result<String, E>) {
         match text {
             Ok(text) => self.push(Value::String(text)),
@@ -147,17 +147,17 @@ impl Items {
         }
     }
 
-    /// A number more.
+    /// Adds a number.
     pub fn number(&mut self, number: i64) {
         self.push(Value::from(number));
     }
 
-    /// An object more.
+    /// Adds an object.
     pub fn object(&mut self, object: Object) {
         self.put(object.into_value());
     }
 
-    /// A list more.
+    /// Adds a list.
     pub fn items(&mut self, items: Items) {
         self.put(items.into_value());
     }

@@ -3,7 +3,7 @@
 use crate::texts::Text;
 use std::fmt::Write;
 
-/// Whether a character could act on a terminal or turn the direction of writing: C0, DEL, C1, and the marks of lines,
+/// Whether a character could act on a terminal or change the direction of writing: C0, DEL, C1, and the marks of lines,
 /// paragraphs and directions.
 pub fn is_control(letter: char) -> bool {
     let code = u32::from(letter);
@@ -14,7 +14,7 @@ pub fn is_control(letter: char) -> bool {
     }
 }
 
-/// The letter; a control character as `\u{hex}`.
+/// Adds a letter, or `\u{hex}` for a control character.
 pub fn add_letter(out: &mut Text, letter: char) {
     if is_control(letter) {
         let code = u32::from(letter);
@@ -23,14 +23,14 @@ pub fn add_letter(out: &mut Text, letter: char) {
     out.push(letter)
 }
 
-/// The text, with control characters as `\u{hex}`.
+/// Adds a text, with control characters as `\u{hex}`.
 pub fn add_escaped(out: &mut Text, text: &str) {
     for letter in text.chars() {
         add_letter(out, letter);
     }
 }
 
-/// The text between quotes, as a command takes it.
+/// Adds a text between quotes, as a command takes it.
 pub fn add_quoted(out: &mut Text, text: &str) {
     out.push('"');
     for letter in text.chars() {

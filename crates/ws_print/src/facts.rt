@@ -6,7 +6,7 @@ use crate::values::{add_comma, add_new_value, add_value, add_values};
 use ws_command::Pattern;
 use ws_written::{Fact, NewFact, Relation};
 
-/// A tuple.
+/// Adds a tuple.
 pub fn add_fact(out: &mut Text, relations: &[Relation], fact: &Fact) {
     add_name(out, relations, fact.relation);
     out.push('(');
@@ -14,7 +14,7 @@ pub fn add_fact(out: &mut Text, relations: &[Relation], fact: &Fact) {
     out.push(')')
 }
 
-/// Tuples between commas.
+/// Adds tuples, with commas between them.
 pub fn add_facts(out: &mut Text, relations: &[Relation], facts: &[Fact]) {
     for (place, fact) in facts.iter().enumerate() {
         add_comma(out, place);
@@ -22,7 +22,7 @@ pub fn add_facts(out: &mut Text, relations: &[Relation], facts: &[Fact]) {
     }
 }
 
-/// A tuple that is to be inserted.
+/// Adds a tuple that is to be inserted.
 pub fn add_new_fact(out: &mut Text, relations: &[Relation], fact: &NewFact) {
     add_name(out, relations, fact.relation);
     out.push('(');
@@ -33,7 +33,7 @@ pub fn add_new_fact(out: &mut Text, relations: &[Relation], fact: &NewFact) {
     out.push(')')
 }
 
-/// Tuples that are to be inserted, between commas.
+/// Adds tuples that are to be inserted, with commas between them.
 pub fn add_new_facts(out: &mut Text, relations: &[Relation], facts: &[NewFact]) {
     for (place, fact) in facts.iter().enumerate() {
         add_comma(out, place);
@@ -41,7 +41,7 @@ pub fn add_new_facts(out: &mut Text, relations: &[Relation], facts: &[NewFact]) 
     }
 }
 
-/// A tuple in which `_` may stand.
+/// Adds a tuple in which `_` may stand.
 pub fn add_pattern(out: &mut Text, relations: &[Relation], pattern: &Pattern) {
     add_name(out, relations, pattern.relation);
     out.push('(');

@@ -1,4 +1,4 @@
-//! Faults as they are told: the words, the line with a mark under the place, further faults, and a hint.
+//! Faults as they are printed: the words, the line with a mark under the place, further faults, and a hint.
 
 use crate::escapes::is_control;
 use crate::tables::add_times;
@@ -7,12 +7,12 @@ use std::fmt::Write;
 use unicode_width::UnicodeWidthStr;
 use ws_fault::Fault;
 
-/// Whether a line has a control character other than a tab, so that it is not shown.
+/// Whether a line has a control character other than a tab. Such a line is not shown with its fault.
 pub fn has_control(line: &str) -> bool {
     line.chars().any(|c| c != '\t' && is_control(c))
 }
 
-// `line N, column C: `, as far as both are known.
+// Adds `line N, column C: `, or the part of it that is known.
 fn add_place(out: &mut Text, number: Option<u64>, fault: &Fault) {
     if let Some(line) = number {
         write!(out, "line {line}");
@@ -24,7 +24,7 @@ fn add_place(out: &mut Text, number: Option<u64>, fault: &Fault) {
     }
 }
 
-// The first characters of a line, as many as are given.
+// The first `count` characters of a line.
 fn first_of(line: &str, count: usize) -> &str {
     match line.char_indices().nth(count) {
         Some((end, _)) => line.get(..end).unwrap_or(line),
@@ -32,7 +32,7 @@ fn first_of(line: &str, count: usize) -> &str {
     }
 }
 
-// Blanks as wide as the first characters of the line, a tab being one itself.
+// Adds blanks as wide as the first `count` characters of the line. A tab stays a tab.
 fn add_blanks(out: &mut Text, line: &str, count: usize) {
     for (place, part) in first_of(line, count).split('\t').enumerate() {
         if 0 < place {
@@ -42,7 +42,7 @@ fn add_blanks(out: &mut Text, line: &str, count: usize) {
     }
 }
 
-// The line, and `^` under the place.
+// Adds the line, and `^` under the place.
 fn add_mark(out: &mut Text, line: &str, place: usize) {
     let shown = line.trim_end_matches('\r');
     if has_control(shown) {
@@ -53,7 +53,8 @@ fn add_mark(out: &mut Text, line: &str, place: usize) {
     out.push('^');
 }
 
-/// A fault of a line, which in a script has a number: lines without `yt: ` in front, and without a last line feed.
+/// Adds a fault of a line, with the `number` of the line if it stands in a script. There is no `yt: ` in front and no last
+/// line feed.
 pub fn add_fault(out: &mut Text, fault: &Fault, line: &str, number: Option<u64>) {
     add_place(out, number, fault);
     out.push_str(fault.words.as_str());

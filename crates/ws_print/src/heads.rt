@@ -79,7 +79,7 @@ fn add_waiting(out: &mut Text, relations: &[Relation], waiting: &Waiting) {
     }
 }
 
-/// The text of a head.
+/// Adds the text of a head.
 pub fn add_head(out: &mut Text, head: &Head) {
     let relations = head.relations.as_slice();
     let last = head.last;

@@ -1,8 +1,8 @@
-//! The printed forms: values, tuples, mappings, lines, records, numbers, tables and faults, as a command takes them or a
+//! The printed forms of values, tuples, mappings, lines, records, numbers, tables and faults, as a command takes them or a
 //! terminal shows them.
 //!
-//! Each function adds to a text that keeps a want of memory. Control
-//! characters, and marks that turn the direction of writing, never come through: a text has them as `\u{hex}`.
+//! Each function adds to a text, which remembers a want of memory. Control characters, and marks that change the direction of
+//! writing, are never printed as they are: a text has them as `\u{hex}`.
 #![tactic(auto)]
 
 mod escapes;

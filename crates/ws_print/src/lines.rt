@@ -8,7 +8,7 @@ use crate::updates::add_numbered;
 use std::fmt::Write;
 use ws_written::{Answer, Choice, Line, Record, Relation, Stamp};
 
-/// `expand`, `unify FACT` or `delete FACT, ..`.
+/// Adds `expand`, `unify FACT` or `delete FACT, ..`.
 pub fn add_choice(out: &mut Text, relations: &[Relation], choice: &Choice) {
     match choice {
         Choice::Expand => out.push_str("expand"),
@@ -23,7 +23,7 @@ pub fn add_choice(out: &mut Text, relations: &[Relation], choice: &Choice) {
     }
 }
 
-/// `answer N CHOICE to NAME FACT, ..`.
+/// Adds `answer N CHOICE to NAME FACT, ..`.
 pub fn add_answer(out: &mut Text, relations: &[Relation], number: u32, answer: &Answer) {
     write!(out, "answer {number} ");
     add_choice(out, relations, &answer.choice);
@@ -32,7 +32,7 @@ pub fn add_answer(out: &mut Text, relations: &[Relation], number: u32, answer: &
     add_facts(out, relations, answer.question.facts.as_slice())
 }
 
-/// A line of the log, without its comment.
+/// Adds a line of the log, without its comment.
 pub fn add_line(out: &mut Text, relations: &[Relation], line: &Line) {
     match line {
         Line::Update(numbered) => add_numbered(out, relations, numbered),
@@ -58,14 +58,14 @@ fn add_said(out: &mut Text, verb: &str, numbers: &[u32], end: &str) {
     out.push_str(end)
 }
 
-/// `TIME CURATOR`.
+/// Adds `TIME CURATOR`.
 pub fn add_stamp(out: &mut Text, stamp: &Stamp) {
     out.push_str(stamp.time.as_str());
     out.push(' ');
     out.push_str(stamp.curator.as_str())
 }
 
-/// The text of a record, over the relations that stand after it.
+/// Adds the text of a record; `relations` must be the relations that stand after it.
 pub fn add_record(out: &mut Text, relations: &[Relation], record: &Record) {
     add_stamp(out, &record.stamp);
     for said in record.lines.iter() {

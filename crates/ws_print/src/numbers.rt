@@ -10,7 +10,7 @@ fn add_range(out: &mut Text, first: u32, last: u32) {
     write!(out, "{first}..{last}")
 }
 
-/// The numbers; those that follow each other as `A..B`.
+/// Adds numbers, with commas between them. Numbers that follow each other are one range, `A..B`.
 pub fn add_ranges(out: &mut Text, numbers: &[u32]) {
     let Some((first, others)) = numbers.split_first() else {
         return;
@@ -28,7 +28,7 @@ pub fn add_ranges(out: &mut Text, numbers: &[u32]) {
     add_range(out, from, to)
 }
 
-/// `1 tuple`, `2 tuples`, `2 queries`, `2 clashes`: a count and its noun.
+/// Adds a count and its noun: `1 tuple`, `2 tuples`, `2 queries`, `2 clashes`.
 pub fn add_count(out: &mut Text, count: usize, noun: &str) {
     if count == 1 {
         return write!(out, "1 {noun}");

@@ -6,7 +6,7 @@ use crate::values::add_comma;
 use std::fmt::Write;
 use ws_written::{Atom, Relation, Rule, Term};
 
-/// The name of the relation of this number; nothing if there is none.
+/// Adds the name of the relation of this number; nothing if there is none.
 pub(crate) fn add_name(out: &mut Text, relations: &[Relation], number: u32) {
     match relations.get(number as usize) {
         Some(relation) => out.push_str(relation.name.as_str()),
@@ -14,7 +14,7 @@ pub(crate) fn add_name(out: &mut Text, relations: &[Relation], number: u32) {
     }
 }
 
-/// A relation with its columns: `NAME(COLUMN*, ..)`.
+/// Adds a relation with its columns: `NAME(COLUMN*, ..)`.
 pub fn add_form(out: &mut Text, relation: &Relation) {
     out.push_str(relation.name.as_str());
     out.push('(');
@@ -36,7 +36,7 @@ fn add_term(out: &mut Text, term: &Term) {
     }
 }
 
-/// An atom.
+/// Adds an atom.
 pub fn add_atom(out: &mut Text, relations: &[Relation], atom: &Atom) {
     add_name(out, relations, atom.relation);
     out.push('(');
@@ -47,7 +47,7 @@ pub fn add_atom(out: &mut Text, relations: &[Relation], atom: &Atom) {
     out.push(')')
 }
 
-/// Atoms between commas.
+/// Adds atoms, with commas between them.
 pub fn add_atoms(out: &mut Text, relations: &[Relation], atoms: &[Atom]) {
     for (place, atom) in atoms.iter().enumerate() {
         add_comma(out, place);
@@ -55,7 +55,7 @@ pub fn add_atoms(out: &mut Text, relations: &[Relation], atoms: &[Atom]) {
     }
 }
 
-/// A mapping: `NAME: ATOM, .. -> ATOM, ..`.
+/// Adds a mapping: `NAME: ATOM, .. -> ATOM, ..`.
 pub fn add_rule(out: &mut Text, relations: &[Relation], rule: &Rule) {
     out.push_str(rule.name.as_str());
     out.push_str(": ");

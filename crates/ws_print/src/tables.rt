@@ -7,7 +7,7 @@ use std::alloc::{AllocError, Global};
 use unicode_width::UnicodeWidthStr;
 use ws_written::Value;
 
-/// A cell of a table: a text stands bare if it cannot be taken for anything else.
+/// Adds a cell of a table. A text stands without quotes if it cannot be taken for anything else.
 pub fn add_cell(out: &mut Text, value: &Value) {
     match value {
         Value::Text(text) => {
@@ -20,7 +20,7 @@ pub fn add_cell(out: &mut Text, value: &Value) {
     }
 }
 
-// Whether a text cannot be taken for another value, and shows all that it has.
+// Whether a text without quotes cannot be taken for another value, and all its characters can be seen.
 fn is_bare(text: &str) -> bool {
     !text.is_empty()
         && text.trim().len() == text.len()
@@ -34,7 +34,7 @@ fn looks_like_number(text: &str) -> bool {
     !digits.is_empty() && digits.bytes().all(|b| b.is_ascii_digit())
 }
 
-/// A table: columns, and rows of cells as they are shown.
+/// A table: columns, and rows of cells in their printed form.
 #[derive(Drop)]
 pub struct Table {
     alloc: Global,
@@ -50,7 +50,7 @@ struct TableColumn {
 }
 
 impl Table {
-    /// A table without columns. It takes no memory.
+    /// A table without columns.
     pub fn new(alloc: Global) -> Table {
         Table {
             alloc,
@@ -59,7 +59,7 @@ impl Table {
         }
     }
 
-    /// A column more, named so.
+    /// Adds a column with this name.
     pub fn add_column(&mut self, name: &str) -> Result<(), AllocError> {
         let mut cells = Vec::new(self.alloc);
         cells.push(String::from_str(self.alloc, name)?)?;
@@ -71,7 +71,7 @@ impl Table {
         Ok(())
     }
 
-    /// A row more, with a value for each column; values that are too many are left out.
+    /// Adds a row with a value for each column. Values for which there is no column are left out.
     pub fn add_row(&mut self, values: &[Value]) -> Result<(), AllocError> {
         let alloc = self.alloc;
         for (column, value) in self.columns.iter_mut().zip(values) {
@@ -84,12 +84,12 @@ impl Table {
         Ok(())
     }
 
-    /// How many rows there are.
+    /// The number of rows.
     pub fn rows(&self) -> usize {
         self.rows
     }
 
-    /// The lines of the table: the names, a rule of `-`, and the rows.
+    /// Adds the lines of the table: the names, a rule of `-`, and the rows.
     pub fn add_to(&self, out: &mut Lines) {
         out.made(self.line(0));
         out.made(self.ruled());
@@ -98,7 +98,7 @@ impl Table {
         }
     }
 
-    // The cells of a row, the names being row 0.
+    // The line of a row. Row 0 has the names.
     fn line(&self, row: usize) -> Result<String, AllocError> {
         let mut line = Text::new(self.alloc);
         let mut gap = 0usize;
@@ -129,7 +129,7 @@ impl TableColumn {
         Ok(())
     }
 
-    // The cell of a row, and how many blanks come before the next column. Numbers stand to the right.
+    // Adds the cell of a row, and returns the number of blanks before the next column. Numbers are aligned to the right.
     fn add_at(&self, line: &mut Text, row: usize, has_rows: bool) -> Result<usize, AllocError> {
         let Some(cell) = self.cells.get(row) else {
             return Ok(0);

@@ -1,12 +1,12 @@
-//! Text and lines that are being written.
+//! Texts and lists of lines, written piece by piece.
 //!
-//! Each push would have to be refused for want of memory by itself. Here the first want of memory is kept, what comes after it counts
-//! for nothing, and `done` tells.
+//! No push returns an error, so that callers need not check each of them. The first want of memory is remembered, and `done`
+//! returns it in place of the text.
 
 use std::alloc::{AllocError, Global};
 use std::fmt::Display;
 
-/// Text that is being written. A want of memory comes out with the text.
+/// A text that is being written. `done` returns it, or an error if memory ran out on the way.
 #[derive(Drop)]
 pub struct Text {
     text: String,
@@ -14,7 +14,7 @@ pub struct Text {
 }
 
 impl Text {
-    /// No text yet.
+    /// An empty text.
     pub fn new(alloc: Global) -> Text {
         Text {
             text: String::new(alloc),
@@ -22,35 +22,35 @@ impl Text {
         }
     }
 
-    /// A text to which more is to be added.
+    /// A text that begins with `text`.
     pub fn from_str(alloc: Global, text: &str) -> Text {
         let mut out = Text::new(alloc);
         out.push_str(text);
         out
     }
 
-    /// A letter more.
+    /// Adds a letter.
     pub fn push(&mut self, letter: char) {
         if self.text.push(letter).is_err() {
             self.lacks = true;
         }
     }
 
-    /// Text more.
+    /// Adds `text`.
     pub fn push_str(&mut self, text: &str) {
         if self.text.push_str(text).is_err() {
             self.lacks = true;
         }
     }
 
-    /// What `write!` adds.
+    /// Adds a formatted value, for `write!`.
     pub fn write_fmt<D: Display + Drop>(&mut self, value: D) {
         if self.text.write_fmt(value).is_err() {
             self.lacks = true;
         }
     }
 
-    /// Text more that was made, if there was memory for it.
+    /// Adds the text of a call; an error counts as want of memory.
     pub fn made<E: Drop>(&mut self, text: Result<String, E>) {
         match text {
             Ok(text) => self.push_str(text.as_str()),
@@ -58,7 +58,7 @@ impl Text {
         }
     }
 
-    /// Whether nothing was added.
+    /// Whether the text is empty.
     pub fn is_empty(&self) -> bool {
         self.text.is_empty()
     }
@@ -73,7 +73,7 @@ impl Text {
     }
 }
 
-/// Lines that are being written, each without a line feed. A want of memory comes out with the lines.
+/// Lines that are being written, each without a line feed. `done` returns them, or an error if memory ran out on the way.
 #[derive(Drop)]
 pub struct Lines {
     alloc: Global,
@@ -82,7 +82,7 @@ pub struct Lines {
 }
 
 impl Lines {
-    /// No line yet.
+    /// An empty list of lines.
     pub fn new(alloc: Global) -> Lines {
         Lines {
             alloc,
@@ -91,19 +91,19 @@ impl Lines {
         }
     }
 
-    /// A line more.
+    /// Adds a line.
     pub fn push(&mut self, line: String) {
         if self.lines.push(line).is_err() {
             self.lacks = true;
         }
     }
 
-    /// A line more, of this text.
+    /// Adds a copy of `line`.
     pub fn push_str(&mut self, line: &str) {
         self.made(String::from_str(self.alloc, line));
     }
 
-    /// A line more that was made, if there was memory for it.
+    /// Adds the line of a call; an error counts as want of memory.
     pub fn made<E: Drop>(&mut self, line: Result<String, E>) {
         match line {
             Ok(line) => self.push(line),
@@ -111,7 +111,7 @@ impl Lines {
         }
     }
 
-    /// How many lines there are.
+    /// The number of lines.
     pub fn len(&self) -> usize {
         self.lines.len()
     }

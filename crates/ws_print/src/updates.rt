@@ -6,7 +6,7 @@ use crate::values::{add_unknown, add_value, add_values};
 use std::fmt::Write;
 use ws_written::{NumberedUpdate, Relation, STEPS, Update};
 
-/// An update, as a command or, for `fix` and `force`, as a line of the log.
+/// Adds an update, as a command or, for `fix` and `force`, as a line of the log.
 pub fn add_update(out: &mut Text, relations: &[Relation], update: &Update) {
     match update {
         Update::Insert(facts) => {
@@ -39,7 +39,7 @@ pub fn add_update(out: &mut Text, relations: &[Relation], update: &Update) {
     }
 }
 
-/// `N [steps N] UPDATE`.
+/// Adds `N [steps N] UPDATE`.
 pub fn add_numbered(out: &mut Text, relations: &[Relation], numbered: &NumberedUpdate) {
     let number = numbered.number;
     write!(out, "{number} ");

@@ -5,14 +5,14 @@ use crate::texts::Text;
 use std::fmt::Write;
 use ws_written::{NewValue, Unknown, Value};
 
-/// `?U.P`.
+/// Adds `?U.P`.
 pub fn add_unknown(out: &mut Text, unknown: Unknown) {
     let update = unknown.update;
     let place = unknown.place;
     write!(out, "?{update}.{place}")
 }
 
-/// A number, a text in quotes, or an unknown.
+/// Adds a number, a text in quotes, or an unknown.
 pub fn add_value(out: &mut Text, value: &Value) {
     match value {
         Value::Number(number) => write!(out, "{number}"),
@@ -21,7 +21,7 @@ pub fn add_value(out: &mut Text, value: &Value) {
     }
 }
 
-/// A value, or a new unknown, `?` or `?x`.
+/// Adds a value, or a new unknown, `?` or `?x`.
 pub fn add_new_value(out: &mut Text, value: &NewValue) {
     match value {
         NewValue::Known(known) => add_value(out, known),
@@ -33,7 +33,7 @@ pub fn add_new_value(out: &mut Text, value: &NewValue) {
     }
 }
 
-/// Values between commas.
+/// Adds values, with commas between them.
 pub(crate) fn add_values(out: &mut Text, values: &[Value]) {
     for (place, value) in values.iter().enumerate() {
         add_comma(out, place);
@@ -41,7 +41,7 @@ pub(crate) fn add_values(out: &mut Text, values: &[Value]) {
     }
 }
 
-/// The comma in front of what stands at this place of a list: none at the first.
+/// Adds the comma in front of the item at this place of a list; nothing at the first place.
 pub(crate) fn add_comma(out: &mut Text, place: usize) {
     if 0 < place {
         return out.push_str(", ");

@@ -1,22 +1,22 @@
-//! What a command is done with beside the workspace: for whom, when, and how its reply is told.
+//! The context of a command: for whom it is done, when, and in which form it replies.
 
-/// How a reply is told.
+/// The form of a reply.
 #[derive(Clone, Copy, PartialEq, Eq)]
 pub enum Form {
     /// Lines for a person.
     Text,
-    /// Objects, one a line.
+    /// Objects of JSON, one on each line.
     Json,
 }
 
-/// For whom a command is done, when, and how its reply is told.
+/// The context of a command: for whom it is done, when, and in which form it replies.
 #[derive(Clone, Copy)]
 pub struct Context<'a> {
     /// The name of the curator.
     pub curator: &'a str,
     /// The time, as `YYYY-MM-DDThh:mm:ssZ`.
     pub time: &'a str,
-    /// The workspace's file, as a fault calls it.
+    /// The workspace's file, as faults name it.
     pub file: &'a str,
     pub form: Form,
     /// Whether the command is only tried.
@@ -24,7 +24,7 @@ pub struct Context<'a> {
 }
 
 impl<'a> Context<'a> {
-    /// Whether the reply is told as objects.
+    /// Whether the reply has the form of objects.
     pub fn is_json(&self) -> bool {
         self.form == Form::Json
     }

@@ -1,4 +1,4 @@
-//! Replies to commands, as lines of text or as objects of JSON, and the parts that many replies to commands that only look have.
+//! Replies to commands, as lines of text or as objects of JSON, and the parts that many replies share.
 #![tactic(auto)]
 
 mod contexts;

@@ -1,9 +1,9 @@
-//! What a change comes to: its reply, and what is to be recorded of it.
+//! The outcome of a change: its reply, and the lines to be recorded.
 
 use crate::replies::Reply;
 use ws_written::Line;
 
-/// What a change that was done over the workspace in memory comes to. Nothing is recorded if there is no line.
+/// The outcome of a change that was made in memory. Nothing is to be recorded if it has no line.
 #[derive(Drop)]
 pub struct Outcome {
     pub reply: Reply,

@@ -13,7 +13,7 @@ pub fn number_of(count: usize) -> i64 {
     i64::try_from(count).unwrap_or(i64::MAX)
 }
 
-/// The lines, parted by line feeds. It is refused only for want of memory.
+/// The lines as one text, with line feeds between them.
 pub fn lines_text(alloc: Global, lines: &[String]) -> Result<String, Memory> {
     let mut text = Text::new(alloc);
     for (place, line) in lines.iter().enumerate() {
@@ -25,7 +25,7 @@ pub fn lines_text(alloc: Global, lines: &[String]) -> Result<String, Memory> {
     Ok(text.done()?)
 }
 
-/// An object of this kind of reply.
+/// An object with the member `reply`, the kind of reply, and nothing else yet.
 pub fn object_of(alloc: Global, reply: &str) -> Object {
     let mut object = Object::new(alloc);
     object.text("reply", reply);
@@ -88,22 +88,22 @@ fn unknown_object(alloc: Global, unknown: Unknown) -> Object {
     object
 }
 
-/// The reply to a command that looks, in lines of text.
+/// The reply to a command that only looks, in lines of text.
 pub fn seen_text(status: Status, lines: Vec<String>) -> Reply {
     Reply::of_text(status, Kind::Look, lines)
 }
 
-/// The reply to a command that looks, of objects. It is refused only for want of memory.
+/// The reply to a command that only looks, as objects.
 pub fn seen_objects(alloc: Global, status: Status, objects: Vec<Object>) -> Result<Reply, Memory> {
     Ok(Reply::of_objects(alloc, status, Kind::Look, objects)?)
 }
 
-/// The reply to a command that looks, of one object. It is refused only for want of memory.
+/// The reply to a command that only looks, as one object.
 pub fn seen_object(alloc: Global, status: Status, object: Object) -> Result<Reply, Memory> {
     Ok(Reply::of_object(alloc, status, Kind::Look, object)?)
 }
 
-/// A refusal in these words, with a hint.
+/// The fault of a refused command, with these words and this hint.
 pub fn refused(alloc: Global, words: String, hint: Option<String>) -> Fault {
     Fault {
         status: Status::Refused,

@@ -1,10 +1,10 @@
-//! A reply, told in lines.
+//! A reply as lines.
 
 use std::alloc::{AllocError, Global};
 use ws_fault::Status;
 use ws_json::Object;
 
-/// What a reply is about, as far as the program that gives it cares.
+/// The kind of command that a reply answers, as far as the program needs to know it.
 #[derive(Clone, Copy, PartialEq, Eq)]
 pub enum Kind {
     Change,
@@ -32,7 +32,7 @@ impl Reply {
         }
     }
 
-    /// A reply of one object, with the status. It is refused only for want of memory.
+    /// A reply of one object, to which the status is added.
     pub fn of_object(
         alloc: Global,
         status: Status,
@@ -45,8 +45,7 @@ impl Reply {
         Ok(Reply::of_text(status, kind, lines))
     }
 
-    /// A reply of objects, one a line, each with the status, and all but the last with the mark `more`. It is refused only
-    /// for want of memory.
+    /// A reply of objects, one on each line. The status is added to each, and the mark `more` to each but the last.
     pub fn of_objects(
         alloc: Global,
         status: Status,
@@ -77,7 +76,7 @@ fn add_line(
     Ok(())
 }
 
-// The object with the status, and the mark `more` if others follow.
+// The line of an object, with the status, and with the mark `more` if other objects follow.
 fn line_of(object: Object, status: Status, more: bool) -> Result<String, AllocError> {
     let mut object = object;
     object.number("status", i64::from(status.code()));

@@ -1,4 +1,4 @@
--- When each answer of a call comes, and what it leaves.
+-- The answers of a call that reads, each with what holds then.
 use Rattle.std.specs.Prelude.{◌≡◌, ℕ, ◌<◌, ◌≤◌, ◌+◌, ◌^◌, ◌⊎◌, List, [], ◌++◌, map, Result, Ok, Err, length}
 use Rattle.base_devices.specs.States.{State, HasFailed, IsLeft}
 use Rattle.base_devices.specs.declared.disks.DiskRefusal.{DiskRefusal}
@@ -9,16 +9,16 @@ use Rattle.ws_seal.specs.declared.types.ReadFault.{ReadFault}
 use Rattle.ws_seal.specs.declared.types.ReadFault.TheVariants as reading
 use Rattle.ws_seal.specs.Logs.{IsHiddenAfter, IsRead, BreaksAt, IsForgedAt, IsLogRead, LogBreaksAt, IsLogForgedAt}
 
--- the texts that the program holds
+-- the texts of an answer
 abbrev pub texts_of : Texts → List (List ℕ)
 texts_of r = map (λ v. v.items) r.texts.items
 
--- what a refusal of the disk is for who reads
+-- the fault of reading for a refusal of the disk
 abbrev pub read_fault : DiskRefusal → ReadFault
 read_fault refusals.Failed = reading.DiskFault
 read_fault refusals.Memory = reading.Memory
 
--- what was told at a closed gate, before which these texts stand
+-- the answer at a closed gate, if these texts stand before it
 abbrev pub GateTold : List ℕ → List ℕ → List (List ℕ) → ℕ → Result Texts ReadFault → Type 0
 GateTold m after texts gate (Ok r) = (texts_of r ≡ texts) × (r.gate ≡ gate) × (r.mark.digits ≡ m) × (IsHiddenAfter m after → ⊥)
 GateTold m after texts gate (Err reading.DiskFault) = ⊥
@@ -26,7 +26,7 @@ GateTold m after texts gate (Err (reading.Damaged (At place))) = (place ≡ gate
 GateTold m after texts gate (Err (reading.Damaged (NotAsWritten number))) = ⊥
 GateTold m after texts gate (Err reading.Memory) = ⊥
 
--- what was told of bytes from the place after the first ones, where some texts were read before it
+-- the answer for the bytes after `before`, if the texts `earlier` were read already
 abbrev pub AfterTold : List ℕ → List ℕ → List (List ℕ) → List ℕ → Result Texts ReadFault → Type 0
 AfterTold before m earlier bytes (Ok r) = (texts : List (List ℕ)) × (texts_of r ≡ earlier ++ texts) × IsRead before m bytes texts r.gate r.mark.digits
 AfterTold before m earlier bytes (Err reading.DiskFault) = ⊥
@@ -34,7 +34,7 @@ AfterTold before m earlier bytes (Err (reading.Damaged (At place))) = BreaksAt b
 AfterTold before m earlier bytes (Err (reading.Damaged (NotAsWritten number))) = (k : ℕ) × (number ≡ length earlier + k) × IsForgedAt before m bytes k
 AfterTold before m earlier bytes (Err reading.Memory) = Unit {0}
 
--- what was told of bytes after a mark
+-- the answer for bytes after a mark
 abbrev pub TailTold : List ℕ → List ℕ → Result Texts ReadFault → Type 0
 TailTold m bytes (Ok r) = IsRead [] m bytes (texts_of r) r.gate r.mark.digits
 TailTold m bytes (Err reading.DiskFault) = ⊥
@@ -42,7 +42,7 @@ TailTold m bytes (Err (reading.Damaged (At place))) = BreaksAt [] m bytes place
 TailTold m bytes (Err (reading.Damaged (NotAsWritten number))) = IsForgedAt [] m bytes number
 TailTold m bytes (Err reading.Memory) = Unit {0}
 
--- what was told of bytes from the head on
+-- the answer for bytes from the head on
 abbrev pub LogTold : List ℕ → Result Texts ReadFault → Type 0
 LogTold bytes (Ok r) = IsLogRead bytes (texts_of r) r.gate r.mark.digits
 LogTold bytes (Err reading.DiskFault) = ⊥
@@ -50,7 +50,7 @@ LogTold bytes (Err (reading.Damaged (At place))) = LogBreaksAt bytes place
 LogTold bytes (Err (reading.Damaged (NotAsWritten number))) = IsLogForgedAt bytes number
 LogTold bytes (Err reading.Memory) = Unit {0}
 
--- the disk failed, or what is told is true of the bytes that it has
+-- the disk failed, or the answer is right for the bytes that it had
 abbrev pub DiskTold : (List ℕ → Result Texts ReadFault → Type 0) → State → State → Result Texts ReadFault → Type 0
 DiskTold told before now (Ok r) = told before.bytes (Ok r)
 DiskTold told before now (Err reading.DiskFault) = HasFailed before now

@@ -1,9 +1,9 @@
--- A log that was changed on the disk, and what would keep that from being told.
+-- A log that was changed on the disk, and the collision that would hide the change.
 use Rattle.std.specs.Prelude.{◌≡◌, ℕ, List, [], ◌∷◌, ◌++◌, length}
 use Rattle.base_roll.specs.Rolls.{gate_of}
 use Rattle.ws_seal.specs.Seals.{mark, payloads}
 
--- the other bytes have another one at the place
+-- the two lists of bytes differ in the byte at the place, and only there
 pub record IsOtherAt (place : ℕ) (bytes other : List ℕ) : Type 0 where
   pub front : List ℕ
   pub back : List ℕ
@@ -14,7 +14,7 @@ pub record IsOtherAt (place : ℕ) (bytes other : List ℕ) : Type 0 where
   pub changed : was ≡ is → ⊥
   pub place_is : place ≡ length front
 
--- the place is that of the gate before the last of these texts
+-- at the place stands the gate before the last of these texts
 pub record IsLastGate (before m : List ℕ) (texts : List (List ℕ)) (place : ℕ) : Type 0 where
   pub earlier : List (List ℕ)
   pub text : List ℕ

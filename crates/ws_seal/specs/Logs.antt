@@ -1,15 +1,15 @@
--- Which bytes are a log: the payload of a first text, the head, and a roll of the payloads of the others after it.
+-- The bytes of a log: the payload of the first text, which is the head, in a frame, and after it a roll of the other payloads.
 use Rattle.std.specs.Prelude.{◌≡◌, ℕ, ◌<◌, ◌^◌, ◌⊎◌, suc, List, [], ◌∷◌, ◌++◌, length}
 use Rattle.base_devices.specs.States.{State}
 use Rattle.base_roll.specs.Format.{AreShort, framed, opened, roll_text}
 use Rattle.base_roll.specs.Rolls.{BeginsWith, IsClosed, IsRoll, IsAt, IsBroken, HasNoRecord, Hold, gate_of}
 use Rattle.ws_seal.specs.Seals.{mark, sealed, payloads, last_mark, HasNoSeal}
 
--- the bytes have a roll of these texts after the first ones, sealed after the mark
+-- after `before` the bytes have a roll of these texts, sealed after the mark
 abbrev pub HasTexts : List ℕ → List ℕ → List (List ℕ) → List ℕ → Type 0
 HasTexts before m texts bytes = IsRoll before (payloads m texts) bytes
 
--- what stands before the first gate of a log with this head
+-- the bytes before the first gate of a log with this head
 abbrev pub opening : List ℕ → List ℕ
 opening head = framed (sealed [] head)
 
@@ -18,7 +18,7 @@ abbrev pub IsLog : List (List ℕ) → List ℕ → Type 0
 IsLog [] bytes = ⊥
 IsLog (head ∷ texts) bytes = (length (sealed [] head) < 2 ^ 32) × HasTexts (opening head) (mark [] head) texts bytes
 
--- a log of the head and these texts, with nothing after its gate, and the mark of the last
+-- a log of the head and these texts, with no byte after its gate, and the mark of the last text
 pub record IsLogText (head : List ℕ) (texts : List (List ℕ)) (bytes : List ℕ) (gate : ℕ) (last : List ℕ) : Type 0 where
   pub head_short : length (sealed [] head) < 2 ^ 32
   pub short : AreShort (payloads (mark [] head) texts)
@@ -34,22 +34,23 @@ pub record HasGateAt (gate : ℕ) (bytes : List ℕ) : Type 0 where
   pub place : gate ≡ length before
   pub closed : IsClosed rest
 
--- What is held of a log is that of the disk: its texts are on the disk, nothing is pending, and the mark is that of the last.
+-- The gate and the mark belong to the log on the disk: it has these texts, nothing is pending, and `last` is the mark of the
+-- last text.
 pub record IsHeld (before m : List ℕ) (texts : List (List ℕ)) (disk : State) (gate : ℕ) (last : List ℕ) : Type 0 where
   pub at : IsAt before (payloads m texts) disk record { gate = gate }
   pub mark_is : last ≡ last_mark m texts
 
 -- ---- damage
 
--- the bytes begin with the payload of a text after the mark, whole
+-- the bytes begin with the whole payload of a text, sealed after the mark
 pub record BeginsSealed (m bytes : List ℕ) : Type 0 where
   pub text : List ℕ
   pub more : List ℕ
   pub short : length (sealed m text) < 2 ^ 32
   pub stands : bytes ≡ framed (sealed m text) ++ more
 
--- After a closed gate two records stand whole, each with the mark that it ought to have, and an open gate between them. No append
--- leaves that: it writes one record, whose own gate a crash may leave with any byte.
+-- After a closed gate stand two whole records, each with the right mark, and an open gate between them. No append leaves that: it
+-- writes one record, and a crash may leave any byte only at that record's own gate.
 pub record IsHiddenAfter (m after : List ℕ) : Type 0 where
   pub text : List ℕ
   pub more : List ℕ
@@ -61,7 +62,7 @@ pub record IsHiddenAfter (m after : List ℕ) : Type 0 where
 abbrev pub IsHidden : List ℕ → List ℕ → Type 0
 IsHidden m rest = (gate : ℕ) × (after : List ℕ) × (rest ≡ gate ∷ after) × (gate ≡ 1 → ⊥) × IsHiddenAfter m after
 
--- What was read: these texts, no records hidden after their gate, its place, and the mark of the last.
+-- The result of reading: these texts, no records hidden after their gate, its place, and the mark of the last text.
 pub record IsRead (before m bytes : List ℕ) (texts : List (List ℕ)) (gate : ℕ) (last : List ℕ) : Type 0 where
   pub rest : List ℕ
   pub begins : BeginsWith before (payloads m texts) bytes rest
@@ -70,7 +71,7 @@ pub record IsRead (before m bytes : List ℕ) (texts : List (List ℕ)) (gate : 
   pub gate_is : gate ≡ gate_of before (payloads m texts)
   pub mark_is : last ≡ last_mark m texts
 
--- After these texts the gate at the place is missing, or it is open and no record stands after it, or it hides records.
+-- After some texts the gate at the place is missing, or it is open and no record stands after it, or it hides records.
 pub record BreaksAt (before m bytes : List ℕ) (place : ℕ) : Type 0 where
   pub texts : List (List ℕ)
   pub rest : List ℕ
@@ -78,7 +79,7 @@ pub record BreaksAt (before m bytes : List ℕ) (place : ℕ) : Type 0 where
   pub place_is : place ≡ gate_of before (payloads m texts)
   pub broken : IsBroken rest ⊎ IsHidden (last_mark m texts) rest
 
--- After so many texts a record stands that is not as it was written: its mark is another one.
+-- After this number of texts stands a record that is not as it was written: it does not have the right mark.
 pub record IsForgedAt (before m bytes : List ℕ) (number : ℕ) : Type 0 where
   pub texts : List (List ℕ)
   pub payload : List ℕ
@@ -92,13 +93,13 @@ pub record IsForgedAt (before m bytes : List ℕ) (number : ℕ) : Type 0 where
 abbrev pub LogBreaksAt : List ℕ → ℕ → Type 0
 LogBreaksAt bytes place = ((place ≡ 0) × HasNoRecord bytes) ⊎ ((head : List ℕ) × BreaksAt (opening head) (mark [] head) bytes place)
 
--- the first payload is not as it was written, or one after it; the head has the number 0
+-- the head, which has the number 0, is not as it was written, or the record of this number after it is not
 abbrev pub IsLogForgedAt : List ℕ → ℕ → Type 0
 IsLogForgedAt bytes number =
     ((number ≡ 0) × (payload : List ℕ) × (rest : List ℕ) × (bytes ≡ framed payload ++ rest) × HasNoSeal [] payload)
     ⊎ ((head : List ℕ) × (before : ℕ) × (number ≡ suc before) × IsForgedAt (opening head) (mark [] head) bytes before)
 
--- what was read of a log from its head on
+-- the result of reading a log from its head on
 abbrev pub IsLogRead : List ℕ → List (List ℕ) → ℕ → List ℕ → Type 0
 IsLogRead bytes [] gate last = ⊥
 IsLogRead bytes (head ∷ texts) gate last = (length (sealed [] head) < 2 ^ 32) × IsRead (opening head) (mark [] head) bytes texts gate last

@@ -9,7 +9,7 @@ ghost use Rattle.ws_seal.specs.Seals.{last_mark, mark, payloads};
 use base_devices::Disk;
 use base_roll::rolls_have_one_reading;
 
-/// Bytes are a log of one list of texts at most.
+/// Bytes are a log of at most one list of texts.
 pub fn logs_have_one_reading()
     ensures { (texts others : List (List ℕ)) (bytes : List ℕ) → IsLog texts bytes
         → IsLog others bytes → texts ≡ others }
@@ -17,9 +17,9 @@ pub fn logs_have_one_reading()
     rolls_have_one_reading();
 }
 
-/// Over the lives of many processes at the records of one log, each of which opens what the one before it left and is ended at any
-/// moment: what is left has each text that any of them acknowledged, in order, and of each process at most one text more than it
-/// acknowledged, unless a fault of the disk broke more of its appends.
+/// Many processes append to one log, one after the other. Each opens what the one before it left, and may be ended at any moment.
+/// The log that is left has each text that any of them acknowledged, in order. Of each process it has at most one further text,
+/// unless a fault of the disk broke more of its appends.
 pub fn processes_keep_what_is_acknowledged<D: Disk>()
     ensures { (before m : List ℕ) (texts : List (List ℕ)) (found : List ℕ)
         (lives : List (Life (List ℕ) D)) (left : List ℕ) → HasTexts before m texts found
@@ -29,15 +29,15 @@ pub fn processes_keep_what_is_acknowledged<D: Disk>()
     rolls_have_one_reading();
 }
 
-/// The mark of the last text vouches for all: as many texts with the same last mark are the same texts, or two inputs of the digest
-/// have one mark.
+/// The mark of the last text vouches for all texts: two lists of the same length with the same last mark are equal, or two
+/// different inputs of the digest have one mark.
 pub fn the_last_mark_tells_all_texts()
     ensures { (m : List ℕ) (texts others : List (List ℕ)) → length texts ≡ length others
         → last_mark m texts ≡ last_mark m others → (texts ≡ others) ⊎ Collision }
 {}
 
-/// A byte that was changed is told, but at the gate before the last text, and after it: what is read of the other bytes then shows two
-/// inputs of the digest with one mark. The first clause is of the records, the second of the head.
+/// A changed byte is detected, unless it stands at the gate before the last text or after the last text: if the changed bytes can
+/// be read, two different inputs of the digest have one mark. The first clause is for the records, the second for the head.
 pub fn changes_are_told()
     ensures records { (before m : List ℕ) (texts : List (List ℕ)) (bytes other : List ℕ) (place : ℕ)
         → HasTexts before m texts bytes → IsOtherAt place bytes other → length before ≤ place

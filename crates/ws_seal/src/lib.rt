@@ -1,8 +1,10 @@
-//! A log of texts on a disk, in which each text vouches for all before it: the first is the head, the others stand after it in a
-//! roll. A payload is `MARK LF TEXT`, MARK the first 8 bytes of SHA-256 over the mark before and the text, as 16 hexadecimal digits.
+//! A log of texts on a disk, in which each text vouches for all texts before it. The first text is the head; the others stand
+//! after it in a roll. A payload is `MARK LF TEXT`. MARK is the first 8 bytes of SHA-256 over the mark before and the text, as 16
+//! hexadecimal digits.
 //!
-//! So whatever was changed on the disk is told and never read, but for a change of the last gate, which is not told from an append
-//! that was cut, and for two texts of one digest. That nobody finds such texts is trusted and not proved.
+//! So a change on the disk is reported, and changed texts are never read. There are two exceptions. A change of the gate before
+//! the last text looks like an append that was cut short. And two inputs of the digest may have one mark; it is trusted, not
+//! proved, that nobody finds them.
 #![tactic(auto)]
 
 mod laws;

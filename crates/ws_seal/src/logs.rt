@@ -1,4 +1,4 @@
-// A log in hand, and texts appended to it.
+// An open log, and the append of a text.
 ghost use Rattle.std.specs.Prelude.{◌≡◌, ◌++◌, ◌∷◌, [], ℕ, List, OnOk};
 ghost use Rattle.base_roll.specs.Rolls.{IsInHand};
 ghost use Rattle.base_roll.specs.Histories.{IsAppending};
@@ -19,17 +19,17 @@ pub struct Log<D: Disk + Drop> {
     pub mark: Mark,
 }
 
-/// Why a text is not acknowledged. After a fault of the disk or its want of memory the text may be in the log or not, and nothing
-/// more may be appended to it before it is read again.
+/// Why a text is not acknowledged. After `DiskFault` and `DiskMemory` the text may be in the log or not, and the log must be read
+/// again before anything else is appended.
 #[derive(Clone, Copy, Debug, PartialEq, Eq)]
 pub enum AppendFault {
-    /// The payload would have so many bytes, which are too many. The log is as it was.
+    /// The payload would have this number of bytes, which is too large. The log is unchanged.
     TooLarge(u64),
     /// The disk failed.
     DiskFault,
-    /// Memory for a call of the disk was wanting.
+    /// Memory for a call of the disk ran out.
     DiskMemory,
-    /// Memory was wanting before the first call of the disk. The log is as it was.
+    /// Memory ran out before the first call of the disk. The log is unchanged.
     Memory,
 }
 
@@ -61,8 +61,8 @@ impl From<base_roll::AppendFault> for AppendFault {
 }
 
 impl<D: Disk + Drop> Log<D> {
-    /// Appends a text. At `Ok` it is acknowledged: from then on each crash leaves a log that has it. A crash at any moment before
-    /// leaves the log without it, or with it.
+    /// Appends a text. At `Ok` it is acknowledged: from then on each crash leaves a log that has the text. A crash at any moment
+    /// before leaves the log without the text, or with it.
     pub fn append(&mut self, alloc: Global, text: &[u8]) -> Result<(), AppendFault>
         requires hand { IsInHand (D.state self.old.disk) (record { gate = self.old.gate }) }
         ensures images { (before m : List ℕ) (texts : List (List ℕ))

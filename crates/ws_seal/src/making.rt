@@ -12,9 +12,9 @@ use std::alloc::{AllocFailed, Global};
 /// Why the text of a log was not made.
 #[derive(Clone, Copy, Debug, PartialEq, Eq)]
 pub enum MakeFault {
-    /// A payload would have so many bytes, which are too many.
+    /// A payload would have this number of bytes, which is too large.
     TooLarge(u64),
-    /// Memory was wanting.
+    /// Memory ran out.
     Memory,
 }
 
@@ -38,7 +38,7 @@ pub struct LogText {
     pub mark: Mark,
 }
 
-/// The bytes of a log of the head and these texts.
+/// Makes the bytes of a log with this head and these texts.
 pub fn log_text(alloc: Global, head: &[u8], texts: &[Vec<u8>]) -> Result<LogText, MakeFault>
     ensures made { IfOk result (λ made. IsLogText head.now (map (λ v. v.items) texts.now)
         made.bytes.items made.gate made.mark.digits) }
@@ -56,7 +56,7 @@ pub fn log_text(alloc: Global, head: &[u8], texts: &[Vec<u8>]) -> Result<LogText
     Ok(LogText { bytes, gate, mark })
 }
 
-// The payload of a text, whose length fits 4 bytes, and its mark.
+// The payload of a text, and its mark. The length of the payload must fit 4 bytes.
 fn short_seal(alloc: Global, before: &[u8], text: &[u8]) -> Result<(Vec<u8>, Mark), MakeFault>
     ensures payload { IfOk result (λ made. made.0.items ≡ sealed before.now text.now) }
     ensures marked { IfOk result (λ made. made.1.digits ≡ mark before.now text.now) }
@@ -69,7 +69,7 @@ fn short_seal(alloc: Global, before: &[u8], text: &[u8]) -> Result<(Vec<u8>, Mar
     Ok((payload, mark))
 }
 
-// Adds the frame of a head, and gives its mark.
+// Adds the frame of a head, and returns its mark.
 fn push_head(alloc: Global, bytes: &mut Vec<u8>, head: &[u8]) -> Result<Mark, MakeFault>
     ensures short { OnOk result (length (sealed [] head.now) < 2 ^ 32) }
     ensures added { OnOk result (bytes.new.items ≡ bytes.old.items ++ opening head.now) }
@@ -80,7 +80,7 @@ fn push_head(alloc: Global, bytes: &mut Vec<u8>, head: &[u8]) -> Result<Mark, Ma
     Ok(mark)
 }
 
-// Adds the record of a text, and gives its mark.
+// Adds the record of a text, and returns its mark.
 fn push_text(
     alloc: Global,
     bytes: &mut Vec<u8>,

@@ -1,4 +1,4 @@
-// A log is read, from its head on or after a mark.
+// Reads a log, from its head on or after a mark.
 ghost use Rattle.std.specs.Prelude.{◌≡◌, ◌≤◌, ◌++◌, ◌∷◌, [], length, take, map, true, false, IfOk, OnOk};
 ghost use Rattle.base_devices.specs.States.{IsSettled};
 ghost use Rattle.base_roll.specs.Histories.{IsReading};
@@ -12,7 +12,7 @@ use base_roll::{load_synced, split_frame};
 use def_memory::Memory;
 use std::alloc::Global;
 
-/// Reads the log that the disk has, from its head on. It writes nothing. At `Ok` the log is in hand and nothing is pending.
+/// Reads the log on the disk, from its head on. It writes nothing. At `Ok` nothing is pending, and texts may be appended.
 pub fn read_log<D: Disk>(alloc: Global, disk: &mut D) -> Result<Texts, ReadFault>
     ensures told { DiskTold LogTold (D.state disk.old) (D.state disk.new) result }
     ensures gate { IfOk result (λ found. HasGateAt found.gate (D.state disk.new).bytes) }
@@ -23,7 +23,7 @@ pub fn read_log<D: Disk>(alloc: Global, disk: &mut D) -> Result<Texts, ReadFault
     log_of(alloc, &bytes)
 }
 
-/// Reads the texts that the disk has after the mark. It writes nothing. At `Ok` they are in hand and nothing is pending.
+/// Reads the texts on the disk, after the mark. It writes nothing. At `Ok` nothing is pending, and texts may be appended.
 pub fn read_tail<D: Disk>(alloc: Global, disk: &mut D, mark: Mark) -> Result<Texts, ReadFault>
     ensures told { DiskTold (TailTold mark.digits) (D.state disk.old) (D.state disk.new) result }
     ensures gate { IfOk result (λ found. HasGateAt found.gate (D.state disk.new).bytes) }
@@ -34,14 +34,14 @@ pub fn read_tail<D: Disk>(alloc: Global, disk: &mut D, mark: Mark) -> Result<Tex
     tail_of(alloc, &bytes, mark)
 }
 
-// What the bytes are as texts after the mark.
+// Reads the bytes as texts after the mark.
 fn tail_of(alloc: Global, bytes: &[u8], mark: Mark) -> Result<Texts, ReadFault>
     ensures { TailTold mark.digits bytes.now result }
 {
     texts_after(alloc, bytes, 0, mark, Vec::new(alloc))
 }
 
-// What the bytes are as a log.
+// Reads the bytes as a log.
 fn log_of(alloc: Global, bytes: &[u8]) -> Result<Texts, ReadFault>
     ensures { LogTold bytes.now result }
 {
@@ -57,7 +57,7 @@ fn log_of(alloc: Global, bytes: &[u8]) -> Result<Texts, ReadFault>
     texts_after(alloc, bytes, start, mark, texts)
 }
 
-// What the bytes from the place on are, as texts after the mark and after those that were read before the place.
+// Reads the bytes from `start` on as texts after the mark, and adds them to the texts that were read before.
 fn texts_after(
     alloc: Global,
     bytes: &[u8],
@@ -90,7 +90,7 @@ fn texts_after(
     }
 }
 
-// What was read up to a closed gate, unless records are hidden after it.
+// The texts that were read up to a closed gate, unless the gate hides records.
 fn at_gate(texts: Vec<Vec<u8>>, gate: usize, mark: Mark, after: &[u8]) -> Result<Texts, ReadFault>
     ensures { GateTold mark.digits after.now (map (λ v. v.items) texts.items) gate result }
 {
@@ -100,8 +100,7 @@ fn at_gate(texts: Vec<Vec<u8>>, gate: usize, mark: Mark, after: &[u8]) -> Result
     Ok(Texts { texts, gate, mark })
 }
 
-// Whether records are hidden: two stand after the closed gate whole, each with the mark that it ought to have, and an open gate
-// between them.
+// Whether a closed gate hides records: two whole records stand after it, each with the right mark, and an open gate between them.
 fn hides(mark: &Mark, after: &[u8]) -> bool
     ensures hidden { result ≡ true → IsHiddenAfter mark.now.digits after.now }
     ensures not_hidden { result ≡ false → IsHiddenAfter mark.now.digits after.now → ⊥ }
@@ -121,7 +120,7 @@ fn hides(mark: &Mark, after: &[u8]) -> bool
     begins_sealed(&found, next)
 }
 
-// Whether the bytes begin with the payload of a text after the mark, whole.
+// Whether the bytes begin with the whole payload of a text, sealed after the mark.
 fn begins_sealed(mark: &Mark, bytes: &[u8]) -> bool
     ensures yes { result ≡ true → BeginsSealed mark.now.digits bytes.now }
     ensures no { result ≡ false → BeginsSealed mark.now.digits bytes.now → ⊥ }

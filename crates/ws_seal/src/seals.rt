@@ -13,7 +13,7 @@ pub struct Mark {
     pub digits: [u8; 16],
 }
 
-// The digest of both.
+// The digest of `before` followed by `text`.
 fn digest_of(before: &[u8], text: &[u8]) -> [u8; 32]
     ensures { result ≡ sha256 (before.now ++ text.now) }
 {
@@ -23,7 +23,7 @@ fn digest_of(before: &[u8], text: &[u8]) -> [u8; 32]
     hasher.finalize()
 }
 
-/// The mark of the text after the mark before; after nothing that of a head.
+/// The mark of a text after the mark `before`, which is empty for a head.
 #[tactic(auto, unfolding(crate::specs::Seals::mark))]
 pub fn mark_of(before: &[u8], text: &[u8]) -> Mark
     ensures { result.digits ≡ mark before.now text.now }
@@ -47,14 +47,14 @@ pub(crate) fn seal(alloc: Global, before: &[u8], text: &[u8]) -> Result<(Vec<u8>
     Ok((payload, mark))
 }
 
-// Whether they are the same bytes.
+// Whether both are the same bytes.
 fn are_same(found: &[u8], wanted: &[u8]) -> bool
     ensures { IsTrue result ↔ (found.now ≡ wanted.now) }
 {
     found == wanted
 }
 
-/// The text of a payload, and its mark; None if its mark is another one.
+/// The mark and the text of a payload. None if the payload does not have the right mark.
 pub(crate) fn unseal<'a>(before: &[u8], payload: &'a [u8]) -> Option<(Mark, &'a [u8])>
     ensures payload { IfSome result (λ parts. payload.now ≡ sealed before.now parts.1.now) }
     ensures marked { IfSome result (λ parts. parts.0.digits ≡ mark before.now parts.1.now) }

@@ -1,4 +1,4 @@
-// What is replied as done lasts.
+// A reply is written only after the text is acknowledged.
 ghost use Rattle.std.specs.Prelude.{◌≡◌, ◌⊎◌, ◌++◌, ◌∷◌, [], ℕ, List, OnOk};
 ghost use Rattle.std.specs.Io.KnownBytes.{Appends};
 ghost use Rattle.base_roll.specs.Rolls.{IsInHand};
@@ -8,12 +8,12 @@ use crate::logs::{AppendFault, Log};
 use base_devices::{Disk, Sink, write_all};
 use std::alloc::Global;
 
-/// Why a text was not appended, or the reply not told.
+/// Why a text was not appended, or the reply not written.
 #[derive(Clone, Copy, Debug, PartialEq, Eq)]
 pub enum TellFault {
-    /// The text is not acknowledged, and nothing was told.
+    /// The text is not acknowledged, and nothing was written to the sink.
     NotAppended(AppendFault),
-    /// The text is acknowledged, and the sink failed.
+    /// The text is acknowledged, but the sink failed.
     NotTold,
 }
 
@@ -23,8 +23,8 @@ impl From<AppendFault> for TellFault {
     }
 }
 
-/// Appends a text, and then tells the reply. No byte of it reaches the sink before the text is acknowledged: so what is replied as done
-/// is in every image that a crash may leave from then on.
+/// Appends a text, and then writes the reply. No byte of the reply reaches the sink before the text is acknowledged. So once a
+/// reply is seen, every image that a crash may leave has the text.
 pub fn append_and_tell<D: Disk + Drop, S: Sink>(
     alloc: Global,
     log: &mut Log<D>,

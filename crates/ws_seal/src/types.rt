@@ -1,9 +1,9 @@
-// What was read of a log, and why it was not.
+// The texts that are read from a log, and the faults of reading.
 use crate::seals::Mark;
 use base_devices::DiskRefusal;
 use def_memory::Memory;
 
-/// The texts that were read, the place of the gate after them, and the mark of the last.
+/// The texts that were read, the place of the gate after them, and the mark of the last text.
 #[derive(Drop)]
 pub struct Texts {
     pub texts: Vec<Vec<u8>>,
@@ -11,23 +11,23 @@ pub struct Texts {
     pub mark: Mark,
 }
 
-/// What is damaged.
+/// The damaged part of a log.
 #[derive(Clone, Copy, Debug, PartialEq, Eq)]
 pub enum Damage {
-    /// The gate at the place: it is missing, or it is open and no whole record stands after it, or it hides records. 0: no whole head.
+    /// The gate at this place: it is missing, or open without a whole record after it, or it hides records. 0: no whole head.
     At(u64),
-    /// The record of this number is not as it was written. The head has the number 0, and what is read after a mark begins with 0.
+    /// The record of this number is not as it was written. The head has the number 0; after a mark the first record has it.
     NotAsWritten(u64),
 }
 
-/// Why a log was not read. The disk reads as before.
+/// Why a log was not read. The bytes of the disk are unchanged.
 #[derive(Clone, Copy, Debug, PartialEq, Eq)]
 pub enum ReadFault {
     /// The disk failed.
     DiskFault,
-    /// The bytes are no log.
+    /// The bytes are not a log.
     Damaged(Damage),
-    /// Memory was wanting.
+    /// Memory ran out.
     Memory,
 }
 

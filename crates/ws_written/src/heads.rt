@@ -1,4 +1,4 @@
-//! The head of a file: what stood at the last fold, and what waited then.
+//! The head of a file: the workspace as it stood at the last fold, and the updates that waited then.
 
 use crate::facts::Fact;
 use crate::lines::{Answer, Stamp};
@@ -7,16 +7,16 @@ use crate::rules::Rule;
 use crate::updates::NumberedUpdate;
 use crate::values::Unknown;
 
-/// The image by which an update drew an unknown.
+/// The image for which an update drew an unknown.
 #[derive(Drop)]
 pub enum Image {
-    /// It is the new unknown of this number in the update, from 1.
+    /// No image: the unknown is the new one of this number in the update's line, from 1.
     New(u32),
-    /// The image of the mapping's left side; none if the mapping is that of the update's own `fix`.
+    /// The image of the mapping's left side; empty if the mapping is the `_fix_m` of the update itself.
     Facts(Vec<Fact>),
 }
 
-/// `drew N P MAPPING VARIABLE [IMAGE]`: what drew the unknown at this place of the update.
+/// `drew N P MAPPING VARIABLE [IMAGE]`: the mapping and the variable that drew the unknown at this place of the update.
 #[derive(Drop)]
 pub struct Drawn {
     pub place: u32,
@@ -25,7 +25,7 @@ pub struct Drawn {
     pub image: Image,
 }
 
-/// An update that waits: its line, what it drew so far, and the answers that it took.
+/// An update that waits: its line, the unknowns that it drew so far, and the answers that it took.
 #[derive(Drop)]
 pub struct Waiting {
     pub stamp: Stamp,
@@ -39,18 +39,18 @@ pub struct Waiting {
 pub struct Head {
     /// When and by whom the workspace was made.
     pub created: Stamp,
-    /// The greatest number that was given.
+    /// The greatest number that any update was given.
     pub last: u32,
-    /// How many records stood before this head since the workspace was made.
+    /// The number of records that stood before this head, since the workspace was made.
     pub at: u32,
     pub relations: Vec<Relation>,
-    /// The mappings in force, in their order.
+    /// The mappings in force, in order.
     pub in_force: Vec<Rule>,
     pub proposed: Vec<Rule>,
     /// The unknowns of the base, in the order in which they were drawn.
     pub unknowns: Vec<Unknown>,
     /// The tuples of the base, in order.
     pub base: Vec<Fact>,
-    /// What waits, by number.
+    /// The updates that wait, in the order of their numbers.
     pub waiting: Vec<Waiting>,
 }

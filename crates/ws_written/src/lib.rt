@@ -1,9 +1,8 @@
-//! What a workspace's file says, as it is written, in plain types: values by their names, tuples, mappings, updates, answers, lines,
-//! records and the head. Every crate of the workspace speaks of these.
+//! The content of a workspace's file in plain types, as it is written there: values by their names, tuples, mappings, updates,
+//! answers, lines, records and the head. All crates of the workspace share these types.
 //!
 //! A relation is named by its number: its place among the relations in the order of their declaration, from 0.
 //! An unknown is named by the update that drew it and its place there. Texts are UTF-8 without U+0000.
-//! A copy of a relation (`clone`) is refused only for want of memory.
 #![tactic(auto)]
 
 mod facts;

@@ -5,7 +5,7 @@ use crate::relations::Relation;
 use crate::rules::Rule;
 use crate::updates::NumberedUpdate;
 
-/// What was chosen as the answer to a question.
+/// The choice that answers a question.
 #[derive(Drop)]
 pub enum Choice {
     Expand,
@@ -13,26 +13,26 @@ pub enum Choice {
     Delete(Vec<Fact>),
 }
 
-/// A question, as an answer names it: its mapping (`_fix_m` if it is that of a `fix`), and the tuple that it wants or
-/// the tuples of which it asks.
+/// A question, as an answer names it: its mapping (`_fix_m` for the question of a `fix` of `m`), and the tuple that the mapping
+/// wants or the tuples that may be deleted.
 #[derive(Drop)]
 pub struct Question {
     pub mapping: String,
     pub facts: Vec<Fact>,
 }
 
-/// A choice, and the question that it was given to.
+/// A choice, and the question that it answers.
 #[derive(Drop)]
 pub struct Answer {
     pub choice: Choice,
     pub question: Question,
 }
 
-/// A line of the log: one command that was accepted, by what it did.
+/// A line of the log: what an accepted command did, or one part of it.
 #[derive(Drop)]
 pub enum Line {
     Update(NumberedUpdate),
-    /// An answer to what this update asks.
+    /// An answer to the question of this update.
     Answer(u32, Answer),
     /// This update is tried again.
     Go(u32),
@@ -46,21 +46,21 @@ pub enum Line {
     Mapping(Rule),
 }
 
-/// A line with the comment that was said with it, or with an empty one.
+/// A line with its comment, which is empty if none was given.
 #[derive(Drop)]
 pub struct SaidLine {
     pub line: Line,
     pub comment: String,
 }
 
-/// When something was said, as `YYYY-MM-DDThh:mm:ssZ`, and by whom.
+/// The time of a command, as `YYYY-MM-DDThh:mm:ssZ`, and the name of the curator who gave it.
 #[derive(Drop)]
 pub struct Stamp {
     pub time: String,
     pub curator: String,
 }
 
-/// A record of the log: what one command did, in one line or more.
+/// A record of the log: all lines of one command.
 #[derive(Drop)]
 pub struct Record {
     pub stamp: Stamp,

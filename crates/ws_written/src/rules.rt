@@ -1,6 +1,6 @@
 //! Mappings as they are written.
 
-/// What stands in a place of an atom.
+/// A term of an atom: a variable or a constant.
 #[derive(Drop)]
 pub enum Term {
     Variable(String),
@@ -15,7 +15,7 @@ pub struct Atom {
     pub terms: Vec<Term>,
 }
 
-/// A mapping as it was said: wherever the left atoms are there, the right ones have to be. Each `_` is a variable of its own.
+/// A mapping as it was declared: each match of the left atoms must extend to the right atoms. Each `_` is a variable of its own.
 #[derive(Drop)]
 pub struct Rule {
     pub name: String,

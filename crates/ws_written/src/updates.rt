@@ -1,9 +1,9 @@
-//! Updates: the lines that have a number.
+//! Updates, each with its number and its budget.
 
 use crate::facts::{Fact, NewFact};
 use crate::values::{Unknown, Value};
 
-/// The steps that an update may take, if its line says nothing else.
+/// The budget of an update whose line gives none, in steps.
 pub const STEPS: u32 = 300;
 
 /// What an update does.
@@ -11,15 +11,15 @@ pub const STEPS: u32 = 300;
 pub enum Update {
     Insert(Vec<NewFact>),
     Delete(Vec<Fact>),
-    /// `replace ?U.P with V`: the unknown is this value, everywhere.
+    /// `replace ?U.P with V`: puts the value in the place of the unknown, in every tuple.
     Fill(Unknown, Value),
-    /// `replace F with G`: the second tuple comes before the first goes.
+    /// `replace F with G`: the second tuple is inserted, then the first is deleted.
     Change(Fact, NewFact),
-    /// `fix m(V, ..)`: what the mapping wants for these values of its variables on both sides.
+    /// `fix m(V, ..)`: repairs the mapping for these values of the variables that stand on both of its sides.
     Fix(String, Vec<Value>),
-    /// `force m`: the mapping comes into force.
+    /// `force m`: puts the mapping in force.
     Force(String),
-    /// `drop m`: the mapping is gone.
+    /// `drop m`: removes the mapping.
     Drop(String),
 }
 

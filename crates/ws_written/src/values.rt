@@ -7,7 +7,7 @@ pub struct Unknown {
     pub place: u32,
 }
 
-/// A value that stands in a tuple.
+/// A value of a tuple.
 #[derive(Drop)]
 pub enum Value {
     Number(i64),
@@ -15,12 +15,12 @@ pub enum Value {
     Unknown(Unknown),
 }
 
-/// A value of a tuple that is to be inserted: one that is there, or a new unknown.
+/// A value of a tuple that is to be inserted: a known value, or a new unknown.
 #[derive(Drop)]
 pub enum NewValue {
     Known(Value),
-    /// `?`: a new unknown, each time that it stands.
+    /// `?`: a new unknown at each place.
     Fresh,
-    /// `?x`: a new unknown, the same wherever the name stands in the command.
+    /// `?x`: a new unknown, the same at each place of this name in the command.
     Named(String),
 }
