@@ -24,7 +24,7 @@ class Live:
         self.labels = {update.label: number for number, update in enumerate(session.updates, 1)}
 
     def reply(self, text):
-        """The lines of the reply to a line, none to a blank one; None where the line ends the session."""
+        """The lines of the reply to a line, none for a blank line; None if the line ends the session."""
         tokens = line_of(text)
         try:
             if tokens is None:
@@ -45,7 +45,7 @@ class Live:
             raise Refused("line") from None
         return getattr(self, "do_" + word)(*given)
 
-    # ---- what each line says; all of it is read before any of it is done
+    # ---- the command of each line; all of it is read before any of it is done
 
     def form_quit(self, line):
         return ()
@@ -63,7 +63,7 @@ class Live:
 
     form_withdraw = form_question
 
-    # ---- what each line does
+    # ---- the effect of each command
 
     def entered(self):
         return [entry_line(self.session.relations, self.core.history[-1])]
@@ -80,7 +80,7 @@ class Live:
             raise Refused("fact") from None
 
     def event(self, make, *given):
-        """Makes an event. One at an update that does not wait is refused by its standing."""
+        """Makes an event. An event of an update that does not wait is refused by the update's standing."""
         try:
             make(*given)
         except Refusal as refusal:
@@ -134,13 +134,21 @@ def served(live, lines):
     return out, False
 
 
+def held(data):
+    """The session of a conversation that is not refused, after all its lines."""
+    place = session_end(data)
+    live = Live(read_session(data[:place]))
+    served(live, data[place:].split(b"\n"))
+    return live
+
+
 def curate(words, data):
     """The status, the text for the output, and the line for the error stream."""
     if words:
         return 2, b"", b"yt_live: usage: yt_live\n"
     too_long = len(data) > LIMIT
     if too_long:
-        data = data[:data.rfind(b"\n", 0, LIMIT) + 1]       # whole lines alone count
+        data = data[:data.rfind(b"\n", 0, LIMIT) + 1]       # only whole lines count
     place = session_end(data)
     longer = (8, b"yt_live: input longer than %d bytes\n" % LIMIT)
     if place is None and too_long:
