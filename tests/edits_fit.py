@@ -1,5 +1,6 @@
 #!/usr/bin/env python3
-"""Prints each must-fail edit, of crates/*/must-fail and of tests/edits, that cannot be made: its file is not there, or its old text stands there not once."""
+"""Prints each must-fail edit, of crates/*/must-fail and of tests/edits, that does not fit: its file is missing, or its old text
+does not stand there exactly once."""
 import sys
 from pathlib import Path
 
@@ -7,7 +8,7 @@ ROOT = Path(__file__).resolve().parent.parent
 
 
 def misfit(edit, crate):
-    """Why the edit cannot be made in the crate; None where it can."""
+    """Why the edit does not fit the crate; None if it fits."""
     texts, path, old, pairs = {}, None, None, 0
     for line in edit.read_text().splitlines():
         if line.startswith("file: "):

@@ -1,8 +1,8 @@
 #!/usr/bin/env python3
-"""cuts.py PROGRAM [cheap]: inputs with a part missing, each told as the reference tells it.
+"""cuts.py PROGRAM [cheap]: inputs with a part missing; the program must give the answer of the reference.
 
-Every beginning of five sessions and of a journal, each by its row's words, and every beginning of a query. If not cheap, also
-every end of each, and each with every one byte left out. The last line is 'N passed, M failed'.
+Every beginning of five sessions and of a journal, each with its row's words, and every beginning of a query. If not cheap, also
+every end of each, and each with any one byte left out. The last line is 'N passed, M failed'.
 """
 import sys
 

@@ -1,9 +1,9 @@
 #!/usr/bin/env python3
-"""desks.py FOLDER: writes there a row for each worked list of calls on a desk, with what the reference tells of it."""
+"""desks.py FOLDER: writes a row into the folder for each worked list of calls on a desk, with the answers of the reference."""
 import sys
 from pathlib import Path
 
-from running import TESTS     # noqa: F401, which makes the reference known
+from running import TESTS     # noqa: F401, makes the reference known
 
 from call_cases import desk_rows
 

@@ -1,8 +1,8 @@
 #!/usr/bin/env python3
-"""live_cuts.py PROGRAM [cheap]: conversations with a part missing, each told as the reference tells it.
+"""live_cuts.py PROGRAM [cheap]: conversations with a part missing; the program must give the answer of the reference.
 
-Every beginning of each conversation, of at most 1,500 bytes. If not cheap, also every end of each stored one that is no longer, and each
-of these with every one byte left out. The last line is 'N passed, M failed'.
+Every beginning of each conversation, of at most 1,500 bytes. If not cheap, also every end of each stored conversation of at most
+that length, and each of these with any one byte left out. The last line is 'N passed, M failed'.
 """
 import sys
 

@@ -1,9 +1,9 @@
 #!/usr/bin/env python3
-"""long.py PROGRAM LIVE [cheap]: inputs at and one beyond the limits, and long in every other way, each within 4 GiB and 20 seconds.
+"""long.py PROGRAM LIVE [cheap]: inputs at the limits, one beyond them, and long in every other way, within 4 GiB and 20 seconds.
 
-What is right is written down beside each, or the reference tells it where it is quick. So for conversations with yt_live, which is LIVE.
-Then a large session with less and less memory, and last sessions whose matching explodes: only the clock of whoever runs them ends them, and then nothing was written. The last line is
-'N passed, M failed'.
+The right answer stands beside each input, or comes from the reference if the reference is quick; likewise for conversations with
+yt_live, which is LIVE. After them comes a large session with less and less memory. Last come sessions whose matching explodes:
+only the clock of the caller ends them, and nothing is written then. The last line is 'N passed, M failed'.
 """
 import sys
 
@@ -35,7 +35,7 @@ def lines(form, count, start=1):
 # ---- tokens ----
 
 def tokens():
-    """At the limits of a token: the reference tells what is right."""
+    """At the limits of a token; the reference has the right answer."""
     for text in (b'\\"' * 256, b"\\n" * 256, "\u00e9".encode() * 128, b"\\\\" * 255 + b"x",
                  b'\\"' * 257, b"\\n" * 256 + b"x", "\u00e9".encode() * 128 + b"x"):
         yield "text", ["format"], ONE + b'base A("' + text + b'")\n' + END
@@ -71,7 +71,7 @@ def atoms(count, columns, names):
 
 
 def statements():
-    """At the limits of a session: the reference tells what is right."""
+    """At the limits of a session; the reference has the right answer."""
     for count in (8, 9):
         side = atoms(count, 8, b"x%d")
         yield "atoms", ["format"], b"youtopia 1\nrelation A 8\nrelation B 1\nmapping m: " + side + b" -> B(x1)\n" + END
@@ -98,7 +98,7 @@ def filled(before, behind, filler, size=LIMIT):
 
 
 def wholes():
-    """As long as an input may be; what is right is written beside each."""
+    """As long as an input may be; the right answer stands beside each input."""
     yield "line feeds alone", ["check"], b"\n" * LIMIT, fault(LIMIT + 1, 20, b"header is not youtopia 1 or 2")
     yield "blank lines, no end", ["run"], filled(b"youtopia 1\n", b"", b"\n"), fault(LIMIT - 9, 25, b"end is missing")
     yield "blank lines, then end", ["check"], filled(b"youtopia 1\n", b"end", b"\n"), counts(0, 0, 0, 0, 0)
@@ -132,7 +132,7 @@ def wholes():
 
 
 def session_with(pairs):
-    """Mappings whose relations have so many paths that none but a careful search for cycles comes to an end."""
+    """Mappings whose relations have so many paths that only a careful search for cycles ends."""
     text = b"youtopia 2\n" + lines(b"relation R%d 1\n", 128, 0)
     for layer in range(15):
         left = b", ".join(b"R%d(x)" % (8 * layer + place) for place in range(8))
@@ -146,7 +146,7 @@ def sized(payload):
 
 
 def sessions():
-    """Sessions at several limits at once; what is right is written beside each."""
+    """Sessions at several limits at once; the right answer stands beside each session."""
     yield "paths through mappings", ["format"], session_with(4) + END, ended(session_with(4) + END)
     closing = b"mapping back: R127(x) -> R127(x)\n"
     yield "a cycle behind them", ["check"], session_with(4) + closing + END, fault(190, 6, b"mapping back closes a plain cycle")
@@ -180,7 +180,7 @@ def sessions():
 
 
 def at_output_limit():
-    """Outputs of as many bytes as may be, and of one too many: an update adds a tuple of 8 long texts."""
+    """Outputs of the greatest allowed number of bytes, and of one byte more: an update adds a tuple of 8 long texts."""
     text = b"y" * 256
     head = b"youtopia 2\nrelation S 1\nrelation T 8\nrelation Z 2\nmapping m: S(x) -> T(x, x, x, x, x, x, x, x)\n"
     made = b'S("%s")' % text, b"T(" + b", ".join([b'"%s"' % text] * 8) + b")"
@@ -189,7 +189,7 @@ def at_output_limit():
     update = b'update u ann insert S("%s")\n' % text
 
     def base(size):
-        """Tuples of Z that take so many bytes."""
+        """Tuples of Z that take this number of bytes."""
         whole = b"".join(b'base Z(%d, "%s")\n' % (number, b"z" * 256) for number in range(1000000, 1000000 + size // 276 - 1))
         rest = size - len(whole)
         first, second = rest // 2, rest - rest // 2
@@ -207,7 +207,7 @@ def at_output_limit():
 # ---- conversations ----
 
 def conversations():
-    """As long as the input of yt_live may be; what is right is written beside each."""
+    """As long as the input of yt_live may be; the right answer stands beside each input."""
     opening, ready = b"youtopia 1\nrelation A 1\nend\n", b"ready 0\n"
     name = b"N" * 8388000
     admitted, withdrawn = b'{"event":"admitted","update":1}\n', b'{"causes":[],"committed":1,"event":"withdrawn","update":1}\n'
@@ -253,7 +253,7 @@ LEFT = ", ".join(f"A({name})" for name in NAMES).encode()
 
 
 def met_early():
-    """Sessions in which a step has 60 to the power of 8 matches, and what its first atom tells suffices."""
+    """Sessions in which a step has 60 to the power of 8 matches, and the first atom alone would decide."""
     tuples = lines(b"base A(%d)\n", 60) + lines(b"base B(%d)\n", 60)
     many = b"relation A 1\nrelation B 1\nmapping m: %s -> B(a)\n" % LEFT + tuples
     yield "a base that meets a mapping of 8 atoms", ["check"], b"youtopia 1\n" + many + END, counts(2, 1, 120, 0, 0)

@@ -3,9 +3,9 @@
 
 The program is that of crates/try_desk, which makes the schedules on one thread: a seat asks for a ticket, works its step out, and
 hands it in. Two seats come in every order for their first TWO calls, three for THREE, and then by turns; in DRAWN random sessions
-besides, of the seeds from FIRST on, for four and three calls less. Each end that is reached has to be the result of the serial machine
-and a history of which the reference's auditor says that it is legal and ends quiet. JOBS processes in the environment. The last line
-is 'N passed, M failed'.
+besides, of the seeds from FIRST on, for four and three calls less. If FIRST is not 0, these sessions come alone. Each end that is
+reached has to be the result of the serial machine and a history of which the reference's auditor says that it is legal and ends
+quiet. JOBS processes in the environment. The last line is 'N passed, M failed'.
 """
 import os
 import random
@@ -13,7 +13,7 @@ import subprocess
 import sys
 from concurrent.futures import ProcessPoolExecutor
 
-from running import TESTS     # noqa: F401, which makes the reference known
+from running import TESTS     # noqa: F401, makes the reference known
 
 from call_cases import CASCADE, INSERT_DELETE, TAKEN_NULL, TWO_LEVELS
 from oracle.audit import audit
@@ -36,7 +36,7 @@ FEWER = {2: 4, 3: 3}        # calls in a drawn session, by the number of seats
 
 def tasks(two, three, seeds):
     """Each session with a setting of the desk, a number of seats, and how many of their calls come in every order."""
-    for extent in ((3, three), (2, two)):
+    for extent in () if seeds.start else ((3, three), (2, two)):
         for deps, retries in ((b"precise", 3), (b"coarse", 3), (b"precise", 0)):
             for name, text in SESSIONS.items():
                 yield name, b"youtopia 2\n" + text.encode() + b"end\n", deps, retries, *extent
@@ -48,7 +48,7 @@ def tasks(two, three, seeds):
 
 
 def ends_of(program, data, deps, retries, seats, calls):
-    """How many schedules were made, and the ends that they came to."""
+    """The number of schedules, and the ends that they reached."""
     case = b"case %d %d %s\n" % (BUDGET, retries, deps) + data + b"explore %d %d %d\ndone\n" % (seats, calls, MOST)
     told = subprocess.run([program], input=case, capture_output=True, check=True).stdout
     head, _, rest = told.partition(b"\n")
@@ -59,7 +59,7 @@ def ends_of(program, data, deps, retries, seats, calls):
 
 
 def is_right(session, result, retries, deps, end):
-    """Whether an end is the result, and behind it a legal history that ends quiet."""
+    """Whether an end is the result, and after it a legal history that ends quiet."""
     if not end.startswith(result):
         return False
     told = audit(session, BUDGET, retries, deps == b"precise", end[len(result):])
@@ -67,7 +67,7 @@ def is_right(session, result, retries, deps, end):
 
 
 def explored(program, name, data, deps, retries, seats, calls):
-    """How many schedules and ends there are, and what is told of the wrong ones."""
+    """The number of schedules and of ends, and words about the wrong ones."""
     session = read_session(data)
     result = result_text(session, serial(session, BUDGET))
     schedules, ends = ends_of(program, data, deps, retries, seats, calls)

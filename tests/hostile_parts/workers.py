@@ -1,9 +1,9 @@
 #!/usr/bin/env python3
 """workers.py PROGRAM SHIM [cheap]: runs by 2, 4, 8 and 16 workers on updates that conflict.
 
-Each run has to give the bytes of the serial run, and with --trace a history behind them of which the reference's auditor says that
-it is legal and ends quiet. The runs with a trace and half of the others are shaken by faults.c, so that the workers meet in other
-orders. That two workers meet and one does not shows by conflicts. A program whose runs have no trace yet is left alone. The last line
+Each run must give the bytes of the serial run, and with --trace a history after them that the reference's auditor finds legal and
+quiet at its end. The runs with a trace and half of the others are shaken by faults.c, so that the workers meet in other orders.
+Conflicts show that two workers meet and that one alone does not. A program whose runs have no trace yet is skipped. The last line
 is 'N passed, M failed'.
 """
 import random
@@ -27,7 +27,7 @@ def crowded(rng, seed):
 
 
 def drawn(rng, seed):
-    """A session, and how many steps its updates may take."""
+    """A session, and the number of steps that its updates may take."""
     kind = rng.choice(["crowded", "crowded", "busy", "random"])
     if kind == "crowded":
         return crowded(rng, seed), 100
@@ -38,7 +38,7 @@ def drawn(rng, seed):
 
 
 def judged(settings, data, wanted, told):
-    """What was told, with the auditor's word in the place of the trace."""
+    """The output, with the auditor's verdict in the place of the trace."""
     status, out, err = told
     result, trace = out[:len(wanted[1])], out[len(wanted[1]):]
     if (status, result, err) != wanted or not trace:
@@ -49,7 +49,7 @@ def judged(settings, data, wanted, told):
 
 
 def meetings(program, shim, workers):
-    """How many of ten shaken histories of so many workers have a conflict, which updates taken one after the other never have."""
+    """How many of ten shaken histories by this number of workers have a conflict; updates one after the other never have one."""
     words, found = ["run", "--workers", str(workers), "--trace"], 0
     for seed in range(10):
         told = told_by(program, words, crowded(random.Random(seed), seed), LD_PRELOAD=shim, FAULTS_SHAKE=str(seed))

@@ -1,11 +1,12 @@
 #!/usr/bin/env python3
-"""workspace_calls.py YT CALLS.SO COUNT [cheap]: each call of the system that a command makes fails in turn, by workspace_calls.c.
+"""workspace_calls.py YT CALLS.SO COUNT [cheap]: each system call of a command fails in turn, by workspace_calls.c.
 
-COUNT lists of commands; every command of each, over the file before it, has each of its calls fail: by an error of the device, for want
-of space or beyond a quota, because nothing may be written, interrupted, and moving one byte only; once, and for all later calls of its name
-too. And some of its requests of memory are refused, as workspace_verbs.py does with all. Then: status 5 and 6 are told in words, 5 and 7
-leave the file as it was, 6 leaves it as it was or with the record, 7 comes for want of memory alone, and whatever else is told is what yt tells
-undisturbed, over the file that it leaves undisturbed. The last line is 'N passed, M failed', with the numbers of each status before it.
+COUNT lists of commands. Every command of each list, over the file before it, has each of its calls fail: by an error of the
+device, for want of space or beyond a quota, because nothing may be written, interrupted, and moving only one byte; once, and for
+all later calls of its name too. Some of its requests of memory are refused as well, as workspace_verbs.py does with all. Then
+statuses 5 and 6 must be explained in words. 5 and 7 must leave the file as it was, and 6 as it was or with the record. 7 may come
+only if memory ran out. Any other answer must be the answer of an undisturbed yt, with the file that yt leaves undisturbed. The
+last line is 'N passed, M failed', with the numbers of each status before it.
 """
 import collections
 import errno
@@ -17,11 +18,11 @@ from workspace_runs import Bench, Tally, command_list, yt
 
 WAYS = [(str(errno.EIO), False), (str(errno.ENOSPC), False), (str(errno.EINTR), False), ("short", False), (str(errno.EIO), True), ("short", True),
         (str(errno.ENOSPC), True), (str(errno.EDQUOT), True), (str(errno.EROFS), True), ("memory", False)]
-STRIDE = 20        # of this many requests of memory before it, the next stride has one more
+STRIDE = 20        # after this many requests of memory the stride between two grows by one
 
 
 class Failing:
-    """One command over one file, each of its calls failing in turn. A command of more lines is said on the standard input."""
+    """One command over one file, whose calls fail one after the other. A command of several lines goes to the standard input."""
 
     def __init__(self, bench, calls, tally, before, line, *options):
         self.bench, self.calls, self.tally, self.before, self.line = bench, calls, tally, before, line
@@ -57,7 +58,7 @@ class Failing:
         status, out, err = told
         in_words = err.startswith(b"yt: ") or b'"reply":"fault"' in out
         there = self.bench.stands_for(self.file)
-        # A new file may be there without a record yet: that of a change that was refused, which takes no part in what it stands for.
+        # After a refused change a new file may be there without a record, which makes no difference to what it stands for.
         counts[status, "as before" if there == self.was else "with the record"] += 1
         if status == (7 if " memory " in what else 5):
             good = (in_words or " lasting " in what) and there == self.was

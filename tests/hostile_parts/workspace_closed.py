@@ -1,8 +1,10 @@
 #!/usr/bin/env python3
-"""workspace_closed.py YT COUNT: yt is started with standard streams closed; what it opens takes their numbers, and must not take their text.
+"""workspace_closed.py YT COUNT: yt starts with standard streams closed; the files that it opens get their numbers, but not their
+text.
 
-COUNT lists of commands; every command of each is given over the file before it with each choice of the three streams closed, also commands that are at fault.
-Then the file is as it was or has the record, as the reference reads it. The last line is 'N passed, M failed'.
+COUNT lists of commands. Every command of each list is given, over the file before it, with each choice of the three streams
+closed; also commands with faults. Then the file is as it was or has the record, as the reference reads it. The last line is 'N
+passed, M failed'.
 """
 import itertools
 import os
@@ -17,7 +19,7 @@ FAULTS = ["insert Nothing(1)", "insert Painting(", "show", "load Painting nowher
 
 
 def with_closed(program, words, closed):
-    """The status of yt with these streams closed, the others leading nowhere."""
+    """The status of yt with these streams closed and the others at /dev/null."""
     actions = [(os.POSIX_SPAWN_OPEN, stream, "/dev/null", os.O_RDWR, 0) for stream in range(3)]
     actions += [(os.POSIX_SPAWN_CLOSE, stream) for stream in closed]
     return end_of(os.posix_spawn(program, [program, *words], os.environ, file_actions=actions))

@@ -1,10 +1,11 @@
 #!/usr/bin/env python3
-"""workspace_crowd.py YT SECONDS: 16 processes write, read and fold one file at once for SECONDS.
+"""workspace_crowd.py YT SECONDS: 16 processes write, read and fold one file at the same time for SECONDS.
 
-Ten write: an insertion, which a mapping doubles, and the deletion of an older pair, each one command. Five read, one folds. Half of them stay, half
-are a process for each command. No reader sees half a command, a pair that was deleted, or fewer than were acknowledged before it asked; the
-records are numbered through, each curator's in its order, each number told once; no command is refused or waits longer than `--wait` allows.
-Each reply counts. The lines before the last tell how many there were and the longest wait; the last line is 'N passed, M failed'.
+Ten write: an insertion, which a mapping doubles, and the deletion of an older pair, each as one command. Five read, one folds.
+Half of them stay open, the others are a process for each command. No reader may see half a command, a pair that was deleted, or
+fewer than were acknowledged before it asked. The records are numbered without gaps, each curator's in order, each number given
+once. No command may be refused, or wait longer than `--wait` allows. Each reply counts. The lines before the last have the number
+of replies and the longest wait; the last line is 'N passed, M failed'.
 """
 import json
 import subprocess
@@ -14,7 +15,7 @@ import time
 
 from workspace_runs import Bench, Tally, yt
 
-WRITERS, READERS, KEPT = 10, 5, 4          # KEPT: pairs of each writer that stay
+WRITERS, READERS, KEPT = 10, 5, 4          # KEPT: the pairs of each writer that are not deleted
 BEGIN = ["relation A(who, what)", "relation B(who, what)", "mapping m: A(x, y) -> B(x, y)"]
 PATIENCE = 120                             # seconds after the end until a process hangs
 
@@ -36,11 +37,11 @@ class Apart:
         return yt(self.crowd.program, [*self.words, line])[1].splitlines()
 
     def end(self):
-        """It has ended."""
+        """Does nothing, because each process has ended already."""
 
 
 class Stays(Apart):
-    """One process that gets a command when the one before it is replied to."""
+    """One process that stays open, and gets a command when the one before has its reply."""
 
     def __init__(self, crowd, name):
         super().__init__(crowd, name)
@@ -93,7 +94,7 @@ class Crowd:
         process.end()
 
     def changed(self, who, told, last):
-        """The number of the record, which is greater than that of its writer's last."""
+        """The number of the record, which must be greater than the number of its writer's last record."""
         is_right = len(told) == 1 and told[0]["status"] == 0 and told[0].get("did") == "done" and told[0]["at"] > last
         self.holds(f"writer {who}: {told[:1]}", is_right)
         self.count("changes")
@@ -123,13 +124,13 @@ class Crowd:
         process.end()
 
     def seen(self, who, writer, numbers, done, left):
-        """The pairs of a writer that a reader saw: all that were inserted and not deleted, in between."""
+        """Checks the pairs of a writer that a reader saw: all that were inserted and not deleted."""
         low, high = (numbers[0], numbers[-1]) if numbers else (1, 0)
         is_right = numbers == list(range(low, high + 1)) and done <= high <= self.said[writer] and left < low <= self.leave[writer] + 1
         self.holds(f"reader {who} sees {numbers} of writer {writer}, after {done} and {left}", is_right)
 
     def follow(self, who, process):
-        """The last records, by their numbers, and each curator's in order."""
+        """Checks the last records: by their numbers, and each curator's in order."""
         last = process.ask("log --limit 1")[0]
         told = process.ask("log --since %d" % max(0, last.get("at", 0) - 20)) if "at" in last else []
         records = [record for record in told if record.get("count")]

@@ -1,11 +1,12 @@
 #!/usr/bin/env python3
-"""workspace_cuts.py YT CALLS.SO RECORD.SO FIRST COUNT KILLS: yt is killed at random calls, time and again over one file, and the power is cut.
+"""workspace_cuts.py YT CALLS.SO RECORD.SO FIRST COUNT KILLS: yt is killed at random calls over one file, and the power is cut.
 
-COUNT lists of commands. yt is told a list and killed by workspace_calls.c at a random call of the system, in place of it or after it, and told
-the rest, until KILLS times. Each second time what workspace_record.c recorded since the last cut decides what a power cut then leaves: of the
-unsynced writes all, parts or nothing, of the unsynced names one. That stands in the folder from then on. Each time the file has to show,
-read by a yt that stays, what the reference shows after the commands that were replied to, or after one more of each process since the last reply.
-JOBS processes in the environment. The last line is 'N passed, M failed'.
+COUNT lists of commands. yt gets a list and is killed by workspace_calls.c at a random system call, in place of the call or after
+it; then it gets the rest, until it was killed KILLS times. Every second time, the record of workspace_record.c since the last cut
+decides what a power cut leaves: of the unsynced writes all, parts or nothing, of the unsynced names one. The folder has that from
+then on. Each time the file must show, read by a yt that stays open, what the reference shows after the commands that had replies,
+or after one more command of each process since the last reply. JOBS in the environment is the number of processes. The last line
+is 'N passed, M failed'.
 """
 import os
 import random
@@ -18,11 +19,11 @@ from workspace_disks import Disk, entries, random_image, replies
 from workspace_images import OPTIONS, SHOWN, Judge, small_list
 from workspace_runs import NEVER, Bench, yt
 
-CALLS = 80         # it is killed at one of its first CALLS calls, if it comes to that
+CALLS = 80         # it is killed at one of its first CALLS calls, if it makes that many
 
 
 class Chain:
-    """One list of commands, said to one process after the other over one file."""
+    """One list of commands, given to one process after the other over one file."""
 
     def __init__(self, bench, calls, record, rng, lines):
         self.bench, self.preloaded, self.rng, self.lines = bench, f"{calls}:{record}", rng, lines
@@ -32,12 +33,12 @@ class Chain:
         self.begin()
 
     def begin(self):
-        self.least = self.stands = 0        # of the commands: how many are acknowledged, and how many the file shows
+        self.least = self.stands = 0        # of the commands: the number acknowledged, and the number that the file shows
         self.story = []
         self.leave(None)
 
     def leave(self, image):
-        """What a power cut has left: this file, or none, and perhaps a file beside it."""
+        """The state after a power cut: this file, or none, and perhaps a file beside it."""
         shutil.rmtree(self.bench.path("disk"), ignore_errors=True)
         os.mkdir(self.bench.path("disk"))
         self.disk = Disk(self.path, image)
@@ -49,7 +50,7 @@ class Chain:
             self.disk.files[str(found.st_dev * 10 ** 12 + found.st_ino)] = self.disk.named
 
     def kill(self):
-        """Says what is left. Whoever is replied to has found what stands."""
+        """Gives the rest of the commands, and kills yt at a call. If it has replied, it has read all commands that stood."""
         at, how = self.rng.randrange(1, CALLS), self.rng.choice(["kill", "killed"])
         Path(self.record).unlink(missing_ok=True)
         script = "".join(line + "\n" for line in self.lines[self.stands:]).encode()
@@ -62,7 +63,7 @@ class Chain:
         self.story.append(f"{how} {at}")
 
     def cut(self):
-        """The power is cut, or nothing happens: what the file is then."""
+        """Cuts the power, or does nothing; returns the file as it is then."""
         if self.rng.random() < 0.5:
             return Path(self.path).read_bytes() if os.path.exists(self.path) else None
         image = random_image(self.rng, self.rng.choice(self.disk.state()), b"")

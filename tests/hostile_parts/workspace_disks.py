@@ -1,8 +1,8 @@
-"""What the record of workspace_record.c says of a disk at each moment, and the images that a crash may leave of it.
+"""The states of a disk by the record of workspace_record.c, and the images that a crash at each moment may leave of it.
 
-A file has the bytes of its last sync, and the writes since. Of each of these a crash leaves all, nothing, or a part, and anything in the place of
-the rest; the file ends anywhere from its synced end on. The path names the file that it named when its folder was last synced, or one that
-it was given since, by any process.
+A file has the bytes of its last sync, and the writes since then. Of each of these writes a crash leaves all, nothing, or a part,
+and anything in the place of the rest; the file ends anywhere from its synced end on. The path names the file that it named when
+its folder was last synced, or a file that any process named so since then.
 """
 import itertools
 
@@ -20,12 +20,12 @@ def entries(record):
 
 
 def over(old, at, new):
-    """The bytes with these written over them."""
+    """The bytes with these bytes written over them."""
     return (old + bytes(max(0, at - len(old))))[:at] + new + old[at + len(new):]
 
 
 class Kept:
-    """A file: the bytes that are synced, those that a read gives, and the writes since the sync."""
+    """A file: the bytes that are synced, the bytes that a read gives, and the writes since the sync."""
 
     def __init__(self, data=b""):
         self.synced, self.read, self.open = data, data, ()
@@ -35,7 +35,7 @@ class Kept:
 
 
 class Disk:
-    """The files of a folder, and those that a crash may leave at the path."""
+    """The files of a folder, and the files that a crash may leave at the path."""
 
     def __init__(self, path, data=None):
         self.path, self.files, self.told = path, {}, b""
@@ -43,7 +43,7 @@ class Disk:
         self.may = [self.named]
 
     def take(self, words, data):
-        """One more call was done."""
+        """Takes one more call."""
         kind, file = words[0], self.files.get(words[1]) if len(words) > 1 else None
         if kind in ("make", "name", "gone") and words[-1] == self.path:
             self.named = None if kind == "gone" else file or Kept()
@@ -67,17 +67,17 @@ class Disk:
         self.told = b""
 
     def state(self):
-        """What a crash now may find at the path: for each file what is synced and what is not, or None."""
+        """What a crash now may leave at the path: for each file its synced bytes and its unsynced writes, or None."""
         return tuple(dict.fromkeys(file and file.state() for file in self.may))
 
 
 def replies(out):
-    """How many replies are there in full."""
+    """The number of replies that are complete."""
     return sum(b'"more":true' not in line for line in out.split(b"\n")[:-1])
 
 
 def moments(path, record):
-    """After each call: how many replies were told, and what a crash may find at the path."""
+    """After each call: the number of replies given, and what a crash may leave at the path."""
     disk = Disk(path)
     yield 0, disk.state()
     for words, data in entries(record):
@@ -88,7 +88,7 @@ def moments(path, record):
 # ---- all images ----
 
 def torn(rng, old, new):
-    """What may stand in the place of a write: the new bytes up to each place or from each place on, and others besides."""
+    """What may stand in the place of a write: the new bytes up to each place or from each place on, and other bytes."""
     size = len(new)
     others = [(old + bytes(size))[:size], bytes(size), b"\1" * size, b"\xff" * size, rng.randbytes(size)]
     for cut in range(size + 1):
@@ -99,18 +99,19 @@ def torn(rng, old, new):
 
 
 def opens_gate(part, new):
-    """Whether all is there, but the last byte is that of an open gate, which nobody wrote."""
+    """Whether the write is complete, but its last byte is an open gate that nobody wrote."""
     return part != new and part == new[:-1] + b"\1"
 
 
 def ended(rng, synced, image):
-    """The image with each end that it may have; past the last write too."""
+    """The image with each end that it may have, also beyond the last write."""
     yield from (image[:end] for end in range(len(synced), len(image) + 1))
     yield from (image + more for more in (b"\0", b"\2", bytes(SECTOR), rng.randbytes(3)))
 
 
 def all_images(rng, state, stride):
-    """Each subset of the writes that are not synced is there whole, and one more of them in part. None: there is no file. Of STRIDE one is drawn."""
+    """Each subset of the unsynced writes, complete, and one more of them in part. None: there is no file. One of STRIDE is
+    drawn."""
     if state is None:
         return [None]
     synced, open_ = state
@@ -125,7 +126,7 @@ def parted(writes):
 
 
 def torn_images(rng, synced, image, write, stride):
-    """The image with one write more, torn; of STRIDE that open no gate one is drawn."""
+    """The image with one more write, torn. Of STRIDE images that open no gate one is drawn."""
     at, data = write
     for part in torn(rng, image[at:at + len(data)], data):
         images = ended(rng, synced, over(image, at, part))
@@ -144,7 +145,7 @@ def images_of(rng, synced, open_, stride):
 # ---- images at random ----
 
 def random_image(rng, state, others):
-    """One of the images; what was not written may be a part of these other bytes."""
+    """One of the images. Parts of these other bytes may stand in the place of what was not written."""
     if state is None or not state[1]:
         return state and state[0]
     synced, open_ = state
@@ -158,7 +159,7 @@ def random_image(rng, state, others):
 
 
 def fill(rng, size, others):
-    """So many bytes that a disk may have had before."""
+    """This number of bytes that a disk may have had before."""
     kind = rng.randrange(5)
     if kind == 0 and others:
         start = rng.randrange(len(others))

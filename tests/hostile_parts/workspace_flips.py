@@ -1,10 +1,10 @@
 #!/usr/bin/env python3
-"""workspace_flips.py YT COUNT [cheap]: damaged files; yt says so, or reads what was there.
+"""workspace_flips.py YT COUNT [cheap]: damaged files; yt reports the damage, or reads what was there.
 
-Every bit of a small workspace is flipped (if cheap, one bit of each byte), and the file is cut at every byte; a larger one is damaged COUNT times
-at random: bytes changed, taken out, put in, parts doubled or moved, the end filled with zeros. Each is told as the reference tells it, byte
-by byte, and then either as damaged (status 12), or nothing has changed; only a cut, and what is done to the last gate, may take
-whole records away from the end. The last line is 'N passed, M failed'.
+Every bit of a small workspace is flipped (if cheap, one bit of each byte), and the file is cut at every byte. A larger one is
+damaged COUNT times at random: bytes changed, taken out or put in, parts doubled or moved, the end filled with zeros. The reply
+must be the reference's, byte by byte. Either the file is reported as damaged (status 12), or nothing has changed; only a cut, and
+damage at the last gate, may take whole records away from the end. The last line is 'N passed, M failed'.
 """
 import collections
 import random

@@ -1,10 +1,12 @@
 #!/usr/bin/env python3
-"""workspace_forged.py YT FIRST COUNT FILES: damaged and forged workspace files, read by a yt that stays.
+"""workspace_forged.py YT FIRST COUNT FILES: damaged and forged workspace files, read by a yt that stays open.
 
-COUNT files of random scripts. Of each every bit is flipped, if FILES is 1,000 or more; then FILES times it is damaged at random, as in
-workspace_flips.py, or forged: the lines of its records are garbled, lost, doubled or moved, and each record has the right seal again. What is
-damaged is told so, or nothing has changed, or whole records have gone from the end. What is forged is told as damaged, or read. yt replies to each
-question, goes on, and takes no second for it. Each 100th that is damaged is told as the reference tells it, and also what is forged and read. Equal files count once. JOBS processes in the environment. The last line is 'N passed, M failed'.
+COUNT files of random scripts. Of each file every bit is flipped, if FILES is 1,000 or more. Then FILES times it is damaged at
+random, as in workspace_flips.py, or forged: the lines of its records are garbled, lost, doubled or moved, and each record gets
+the right seal again. A damaged file must be reported, or nothing has changed, or whole records have gone from the end. A forged
+file must be reported as damaged, or read. yt replies to each question within a second and goes on. Every 100th damaged file must
+get the reference's reply, and so must forged files that are read. Equal files count once. JOBS in the environment is the number
+of processes. The last line is 'N passed, M failed'.
 """
 import hashlib
 import json
@@ -23,13 +25,13 @@ from workspace_runs import LOOKS, NEVER, Bench, Workspace, by_reference, random_
 from oracle.yt.files import frame, sealed          # noqa: E402
 
 STATUS = re.compile(rb'"status":(\d+)')
-NUMBER = re.compile(rb'"line":\d+,(?="reply":"fault")')     # of the line, in a fault of one that stays
+NUMBER = re.compile(rb'"line":\d+,(?="reply":"fault")')     # for the line number in a fault of a yt that stays open
 CAN_BE = {b"0", b"3", b"4", b"12", b"13"}
 SECOND, COMPARED, THOROUGH = 1, 100, 1000
 
 
 def texts_of(data):
-    """The texts of the records, the head's first."""
+    """The texts of the records, the head first."""
     texts, place = [], 0
     while True:
         end = place + 4 + int.from_bytes(data[place:place + 4], "big")
@@ -40,7 +42,7 @@ def texts_of(data):
 
 
 def file_of(texts):
-    """These texts as a file, each with its seal."""
+    """A file of these texts, each with its seal."""
     frames, mark = [], b""
     for text in texts:
         payload = sealed(mark, text)
@@ -85,7 +87,7 @@ class Attack:
         self.states.add(self.judge.shows(file_of(texts_of(self.data)[:1])))
 
     def shown(self, image):
-        """What yt shows of it, within a second."""
+        """What yt shows of the file, within a second."""
         start = self.judge.worked()
         shown = self.judge.shows(image)
         took = self.judge.worked() - start
@@ -97,7 +99,7 @@ class Attack:
         return shown
 
     def compare(self, image, shown):
-        """Some of them are read by the reference too."""
+        """Compares some of the files with the reference too."""
         if len(self.seen) % COMPARED == 0:
             copy = self.bench.path("copy.yt")
             Path(copy).write_bytes(image)

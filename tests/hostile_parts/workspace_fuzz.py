@@ -1,10 +1,11 @@
 #!/usr/bin/env python3
-"""workspace_fuzz.py YT scripts|files FIRST COUNT: garbled scripts, or garbled CSV files, by yt and by the reference; all they tell is equal.
+"""workspace_fuzz.py YT scripts|files FIRST COUNT: garbled scripts, or garbled CSV files, by yt and by the reference.
 
-A garbled script has commands that fit what stands, and between them such commands with tokens lost, doubled, exchanged, with odd characters,
-cut, or very long. A garbled file has odd cells, quotes, ends of lines, bytes that are no UTF-8, too many cells or too few, now and then a cell of a
-million bytes; it is loaded with random options. Statuses, both streams and what is shown at the end have to be those of the reference. What
-differs is kept, and its folder is told. JOBS processes in the environment. The last line is 'N passed, M failed'.
+A garbled script has commands that fit what stands. Between them it has such commands with tokens lost, doubled or exchanged, with
+odd characters, cut, or very long. A garbled file has odd cells, quotes, ends of lines, bytes that are not UTF-8, too many or too
+few cells, now and then a cell of a million bytes; it is loaded with random options. Statuses, both streams and what is shown at
+the end must be equal to the reference's. Inputs that differ are kept, and their folder is printed. JOBS in the environment is the
+number of processes. The last line is 'N passed, M failed'.
 """
 import json
 import os
@@ -19,7 +20,7 @@ from workspace_garbled import garbled_file, garbled_line, load_lines
 from workspace_runs import LOOKS, Bench, Tally, Workspace, by_reference, random_script, yt
 
 CONTROLS = re.compile("[\x00-\x1f\x7f-\x9f\u061c\u200e\u200f\u2028-\u202e\u2066-\u2069]")
-PART = 20          # seeds of one task
+PART = 20          # seeds for one task
 BEGIN = ['relation A(x*, y)', 'relation B(name, town, born)', 'insert A(1, ?), A("a", "Utrecht")', 'mapping m: B(n, t, b) -> A(n, u)']
 
 
@@ -38,19 +39,19 @@ def script_of(rng, bench, seed):
 
 
 def load_of(rng, bench):
-    """The bytes of a script that loads a garbled file, which is written."""
+    """The bytes of a script that loads a garbled file; the file is written too."""
     data, path = garbled_file(rng), bench.path("rows.csv")
     Path(path).write_bytes(data)
     return "".join(line + "\n" for line in BEGIN).encode() + load_lines(rng, path, data) + LOOKS
 
 
 def shown(text, kept=""):
-    """Words of a fault as yt shows them: control characters by their numbers, so that none reaches a terminal."""
+    """Words of a fault as yt shows them: control characters by their numbers, so that none of them reaches a terminal."""
     return CONTROLS.sub(lambda found: found[0] if found[0] == kept else "\\u{%x}" % ord(found[0]), text)
 
 
 def with_controls_shown(told):
-    """What the reference tells, with the words of its faults as yt shows them."""
+    """The answer of the reference, with the words of its faults as yt shows them."""
     status, out, err = told
     lines = out.split(b"\n")
     for number, line in enumerate(lines):
@@ -64,7 +65,7 @@ def with_controls_shown(told):
 
 
 def difference(bench, options, data):
-    """What yt and the reference tell, if it is not the same."""
+    """The answers of yt and of the reference, if they differ."""
     file, both = bench.path("w.yt"), []
     for run in (by_reference, lambda words, data: yt(bench.program, words, data)):
         for name in os.listdir(bench.folder):
@@ -75,14 +76,14 @@ def difference(bench, options, data):
 
 
 def differing(wanted, told):
-    """What the reference and yt told, if it is not the same."""
-    # A line that is at fault is shown as it was said, with its tabs.
+    """The answers of the reference and of yt, if they differ."""
+    # A line with a fault is shown as it was given, with its tabs.
     both = [(status, out, err.replace(b"\t", b"\\u{9}")) for status, out, err in (with_controls_shown(wanted), told)]
     return None if both[0] == both[1] else both
 
 
 def kept(bench, name, options, data, both):
-    """Puts what differs into a folder of its own, and tells its name."""
+    """Puts an input that differs into a folder of its own, and returns the folder's name."""
     folder = Path(bench.folder + "-" + name)
     folder.mkdir()
     (folder / "options").write_text(" ".join(options) + "\n")
@@ -95,7 +96,7 @@ def kept(bench, name, options, data, both):
 
 
 def attacked(program, what, seeds):
-    """How many of these agree, and what is told of each of the others."""
+    """The number of these that agree, and words about each of the others."""
     told = []
     with Bench(program) as bench:
         for seed in seeds:

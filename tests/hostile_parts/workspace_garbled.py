@@ -1,5 +1,6 @@
 """Garbled commands and garbled files of comma-separated values, drawn at random."""
 import re
+from functools import lru_cache
 
 TOKEN = re.compile(r'"(?:[^"\\]|\\.)*"|--\w+|[\w.]+|\s+|.', re.S)
 WORDS = ("insert delete replace with mapping relation adopt drop answer undo redo try load show ask why questions violations log status export page graph "
@@ -10,19 +11,11 @@ ODD = list("'\"\\?#;:*_.,()-><=|&\t \u00a0\u00e9\u65e5\u0301\u202e\u200b\ufeff\x
 
 
 def garbled_line(rng, line):
-    """The bytes of this command, damaged once to three times."""
-    tokens = TOKEN.findall(line)
+    """The bytes of this command, damaged one to three times."""
+    tokens = list(tokens_of(line))
     for _ in range(rng.choice([1, 1, 1, 2, 3])):
         at = rng.randrange(len(tokens) + 1)
-        tokens[at:at + rng.randrange(2)] = rng.choice([
-            lambda: [],
-            lambda: [rng.choice(WORDS)],
-            lambda: [" ", rng.choice(WORDS), " "],
-            lambda: [rng.choice(ODD)],
-            lambda: tokens[at:at + 1] * 2,
-            lambda: tokens[at + 1:at + 2] + tokens[at:at + 1],
-            lambda: [long_token(rng)],
-        ])()
+        tokens[at:at + rng.randrange(2)] = rng.choice(DAMAGES)(rng, tokens, at)
     raw = "".join(tokens).replace("\n", " ").encode("utf-8", "surrogatepass")
     if rng.random() < 0.08:
         raw = raw[:rng.randrange(len(raw) + 1)]
@@ -32,16 +25,25 @@ def garbled_line(rng, line):
     return raw if b" --to" not in raw and b"quit" not in raw and b"exit" not in raw else b"status"
 
 
-def long_token(rng):
-    return rng.choice([
-        '"%s"' % ("x" * rng.choice([255, 256, 257, 5000])),
-        '"%s"' % ("\u00e9" * rng.choice([128, 129])),
-        "9" * rng.choice([19, 20, 400]),
-        "(" * rng.choice([2, 300]),
-        ", ".join("Loan(%d, 1)" % n for n in range(rng.choice([9, 300]))),
-        "n" * rng.choice([64, 300]),
-        "1..%d" % rng.choice([2, 999999, 4294967295, 4294967296]),
-    ])
+@lru_cache(1000)
+def tokens_of(line):
+    return TOKEN.findall(line)
+
+
+# What may come in place of a token, or in front of it.
+DAMAGES = [
+    lambda rng, tokens, at: [],
+    lambda rng, tokens, at: [rng.choice(WORDS)],
+    lambda rng, tokens, at: [" ", rng.choice(WORDS), " "],
+    lambda rng, tokens, at: [rng.choice(ODD)],
+    lambda rng, tokens, at: tokens[at:at + 1] * 2,
+    lambda rng, tokens, at: tokens[at + 1:at + 2] + tokens[at:at + 1],
+    lambda rng, tokens, at: [rng.choice(LONG)],
+]
+LONG = ['"%s"' % ("x" * size) for size in (255, 256, 257, 5000)] + ['"%s"' % ("\u00e9" * size) for size in (128, 129)] + [
+    *("9" * size for size in (19, 20, 400)), *("(" * size for size in (2, 300)), *("n" * size for size in (64, 300)),
+    *(", ".join("Loan(%d, 1)" % number for number in range(size)) for size in (9, 300)),
+    *("1..%d" % number for number in (2, 999999, 4294967295, 4294967296))]
 
 
 # ---- files ----
@@ -80,9 +82,9 @@ OPTIONS = ["--create", "--create", "--empty new", "--empty new", "--empty text",
 
 
 def load_lines(rng, path, data):
-    """One to three lines that load the file, or its lines out of the script."""
+    """One to three lines that load the file, or load its lines from the script."""
     out = b""
-    # Where the header makes no relation, the reference tells a column of a line that nobody said.
+    # If the header makes no relation, the reference reports a column of a line that nobody gave.
     options = [option for option in OPTIONS if option != "--create" or not re.match(b"(\xef\xbb\xbf)?(_x|a[,;\t]b|x[,;\t]x)", data)]
     for _ in range(rng.choice([1, 1, 2, 3])):
         words = " ".join(rng.sample(options, rng.choice([0, 1, 1, 2, 3])))

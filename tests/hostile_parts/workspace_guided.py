@@ -1,10 +1,11 @@
 #!/usr/bin/env python3
-"""workspace_guided.py YT GUIDED KIND COUNT: COUNT inputs of a kind, made by AFL++, which goes on from each that reaches a new branch of yt.
+"""workspace_guided.py YT GUIDED KIND COUNT: COUNT inputs of a kind by AFL++, which goes on from inputs that reach new branches of
+yt.
 
-GUIDED is yt built without proof, with its branches counted, and with guided.c, which says what an input of each KIND is and what has to hold.
-Of the inputs that reach a new branch COMPARED, or all if there are fewer, are told by YT as the reference tells them. What fails is kept, and its
-folder is told. In the environment: JOBS fuzzers; AT_MOST, the seconds after which the fuzzers end though fewer inputs were made. The last line is
-'N passed, M failed'.
+GUIDED is yt built without proof, with its branches counted, and with guided.c, which defines the inputs of each KIND and what
+must hold. COMPARED inputs that reach a new branch, or all if there are fewer, are given to YT, whose answer must be the
+reference's. Failures are kept, and their folder is printed. In the environment: JOBS fuzzers; AT_MOST, the seconds after which
+the fuzzers end even if fewer inputs were made. The last line is 'N passed, M failed'.
 """
 import os
 import random
@@ -28,9 +29,9 @@ from workspace_verbs import LINES
 
 ENVIRONMENT = {"AFL_NO_UI": "1", "AFL_NO_AFFINITY": "1", "AFL_SKIP_CPUFREQ": "1", "AFL_I_DONT_CARE_ABOUT_MISSING_CRASHES": "1"}
 SEEDS, LONGEST, MOST_WORDS, MOST_RECORDS = 30, 8000, 40, 200
-MILLISECONDS = "20000+"     # after which an input hangs; guided.c tells seconds of processor
+MILLISECONDS = "20000+"     # after which an input counts as hanging; guided.c uses seconds of processor time
 TOGETHER = 20000            # inputs of one process
-COMPARED = 2000             # inputs of each kind that the reference is asked about
+COMPARED = 2000             # inputs of each kind that are compared with the reference
 PATIENCE = 10               # seconds of processor for the reference
 AT_MOST = os.environ.get("AT_MOST", "")
 ODD_LETTERS = re.compile("[\udc80-\udcff]|" + CONTROLS.pattern)
@@ -59,7 +60,7 @@ def of_records(data):
 
 
 def of_words(data):
-    """None leads out of the folder. That a word is no UTF-8 or has a control character counts only with STRICT."""
+    """Whether no word leads out of the folder. Words that are not UTF-8 or have a control character count only with STRICT."""
     words = [os.fsdecode(word) for word in data.partition(b"\0")[0].split(b"\n")[:MOST_WORDS]]
     if b"/" in data or not STRICT and ODD_LETTERS.search("".join(words)):
         return None
@@ -116,7 +117,7 @@ def write_tokens(path):
 
 
 def begun(bench, guided, kind, count, job):
-    """One fuzzer of COUNT inputs. It takes over what the others find."""
+    """One fuzzer of COUNT inputs. It takes over the finds of the others."""
     words = ["afl-fuzz", "-i", bench.path("seeds"), "-o", bench.path("found"), "-x", bench.path("tokens"), "-S" if job else "-M", f"job{job}"]
     words += ["-G", str(LONGEST), "-t", MILLISECONDS, "-m", "none", "-E", str(count), *["-V", AT_MOST] * bool(AT_MOST)]
     words += ["--", guided, f"-{TOGETHER}"]
@@ -125,7 +126,7 @@ def begun(bench, guided, kind, count, job):
 
 
 def fuzzed(bench, guided, kind, count, jobs):
-    """How many inputs were made, those that failed, and those of new branches."""
+    """The number of inputs made, the failed inputs, and the inputs of new branches."""
     os.mkdir(bench.path("seeds"))
     for number, data in enumerate(KINDS[kind][1](bench)):
         Path(bench.path("seeds"), str(number)).write_bytes(data[:LONGEST])
@@ -144,7 +145,8 @@ def fuzzed(bench, guided, kind, count, jobs):
 
 
 def faults(bench, guided, kind, crashes, hangs):
-    """Each input that failed, with why. One stands that takes a second only because its branches are counted, or that hangs only beside others."""
+    """Each failed input, with the reason. An input passes that takes a second only because branches are counted, or hangs only
+    beside others."""
     for data in sorted(crashes | hangs):
         told = fault_alone(bench, guided, kind, data)
         if told and not ("a second" in told and not is_slow(bench, kind, data)) or not told and data in crashes:
@@ -152,7 +154,7 @@ def faults(bench, guided, kind, crashes, hangs):
 
 
 def fault_alone(bench, guided, kind, data):
-    """What guided.c tells of an input by itself; nothing if it stands."""
+    """The words of guided.c about an input by itself; nothing if the input passes."""
     Path(bench.path("alone")).write_bytes(data)
     told = subprocess.run([guided, bench.path("alone")], env={**os.environ, "KIND": kind, "TMPDIR": bench.folder}, capture_output=True)
     if told.returncode == 0:
@@ -162,17 +164,17 @@ def fault_alone(bench, guided, kind, data):
 
 
 def is_slow(bench, kind, data):
-    """Whether yt takes over a second of processor for all runs of an input."""
+    """Whether yt takes more than a second of processor time for all runs of an input."""
     trial, start = KINDS[kind][0](data), resource.getrusage(resource.RUSAGE_CHILDREN).ru_utime
     if trial:
         told_by(partial(yt, bench.program), bench.path("in"), *trial)
     return not trial or resource.getrusage(resource.RUSAGE_CHILDREN).ru_utime - start > 1
 
 
-# ---- beside the reference ----
+# ---- compared with the reference ----
 
 def told_by(run, folder, files, runs):
-    """What is told of an input in an empty folder, and afterwards of its workspace."""
+    """The output for an input in an empty folder, and afterwards for its workspace."""
     os.mkdir(folder)
     os.chdir(folder)
     for name, data in files.items():
@@ -184,7 +186,7 @@ def told_by(run, folder, files, runs):
 
 
 def compared(program, kind, data):
-    """The folder with an input of which both do not tell the same, if they do not. Forged records with STRICT alone."""
+    """The folder of an input with different answers, if they differ. Forged records count only with STRICT."""
     trial = KINDS[kind][0](data)
     if trial is None or kind == "records" and not STRICT:
         return None
@@ -196,7 +198,7 @@ def compared(program, kind, data):
 
 
 def kept(kind, data, both=()):
-    """Puts an input that failed into a folder of its own, with what was told."""
+    """Puts a failed input into a folder of its own, with the output."""
     place = Path(tempfile.mkdtemp(prefix=f"guided-{kind}-"))
     (place / "input").write_bytes(data)
     for name, told in zip(("reference", "yt"), both):

@@ -1,11 +1,13 @@
 #!/usr/bin/env python3
-"""workspace_images.py YT RECORD.SO all|random FIRST COUNT [IMAGES]: what a disk may hold after a crash at each moment of conversations.
+"""workspace_images.py YT RECORD.SO all|random FIRST COUNT [IMAGES]: what a disk may hold after a crash at each moment of
+conversations.
 
-COUNT conversations with yt, whose writes, syncs, names and replies are recorded by workspace_record.c. After each call `all` makes every image
-that workspace_disks.py has, or one in IMAGES, `random` draws them until IMAGES of a conversation are different. A yt that stays reads each of
-them, in the place of the one before; what it shows has to be what the reference shows after the commands that were replied to by then, or after
-one more. Each 64th is also read by a yt of its own, and this one is told the other commands then and ends as the conversation did. Equal images
-count once. JOBS processes in the environment. The last line is 'N passed, M failed'.
+COUNT conversations with yt, whose writes, syncs, names and replies are recorded by workspace_record.c. After each call `all`
+makes every image that workspace_disks.py has, or one in IMAGES; `random` draws images until IMAGES of a conversation are
+different. A yt that stays open reads each image, in the place of the one before. It must show what the reference shows after the
+commands that had replies by then, or after one more. Every 64th image is also read by a yt of its own; this one then gets the
+other commands and must end as the conversation did. Equal images count once. JOBS in the environment is the number of processes.
+The last line is 'N passed, M failed'.
 """
 import hashlib
 import os
@@ -22,11 +24,11 @@ from workspace_runs import LOOKS, NEVER, Bench, Workspace, command_list, random_
 
 OPTIONS = ["--json", "--keep-going"]
 SECONDS, OWN = 60, 64
-SHOWN = 3          # failures of a conversation that are told
+SHOWN = 3          # failures of a conversation that are printed
 
 
 def settled(line):
-    """The command, with an answer that does not hang on what a process showed before."""
+    """The command, with an answer that does not depend on what a process showed before."""
     return re.sub(r"^((?:try )?answer \d+) [\d, ]+( --at.*)?$", r"\1 new", line)
 
 
@@ -53,7 +55,7 @@ def large_list(bench, seed):
 
 
 class Judge:
-    """A yt that stays: what it shows of each image that takes the place of the one before."""
+    """A yt that stays open: what it shows of each image that takes the place of the one before."""
 
     def __init__(self, bench, name="judge"):
         self.folder, self.program = bench.path(name), bench.program
@@ -70,7 +72,7 @@ class Judge:
         os.replace(self.next, self.file)
 
     def shows(self, image):
-        """All that it replies, with its questions of LOOKS. It has SECONDS for it."""
+        """Its replies to the questions of LOOKS over this image. It has SECONDS for them."""
         self.place(image)
         signal.alarm(SECONDS)
         self.run.stdin.write(LOOKS)
@@ -86,18 +88,18 @@ class Judge:
         return NEVER if absent else b"".join(lines)
 
     def end(self):
-        """It ends by itself, when there are no more questions."""
+        """Waits until it ends by itself, when there are no more questions."""
         self.run.stdin.close()
         self.run.stdout.close()
         return self.run.wait()
 
     def worked(self):
-        """The seconds of processor that it took."""
+        """The seconds of processor time that it took."""
         with open(f"/proc/{self.run.pid}/stat") as stat:
             return sum(map(int, stat.read().rsplit(")", 1)[1].split()[11:13])) / os.sysconf("SC_CLK_TCK")
 
     def by_its_own(self, image, lines):
-        """What a yt of its own shows, and what is shown after these lines."""
+        """What a yt of its own shows, and what it shows after these lines."""
         self.place(image)
         first = yt(self.program, [*OPTIONS, self.file], LOOKS)[1]
         yt(self.program, [*OPTIONS, self.file], b"".join(line.encode() + b"\n" for line in lines))
@@ -105,7 +107,7 @@ class Judge:
 
 
 class Conversation:
-    """Commands, what yt did to the disk when it was told them, and what the reference shows after each."""
+    """Commands, what yt did to the disk for them, and what the reference shows after each."""
 
     def __init__(self, bench, library, seed, lines):
         self.bench, self.lines, self.judge = bench, lines, Judge(bench)
@@ -115,7 +117,7 @@ class Conversation:
         self.record = self.recorded(library, ("together", "apart", "pieces")[seed % 3])
 
     def recorded(self, library, how):
-        """All is said to one process, or each command to one of its own, or one writes in pieces."""
+        """Gives all commands to one process, or each to a process of its own, or has one process write in pieces."""
         record = self.bench.path("record")
         more = {"RECORD_PIECE": "40"} if how == "pieces" else {}
         for words, data in [([line], b"") for line in self.lines] if how == "apart" else [([], "\n".join(self.lines).encode() + b"\n")]:
@@ -130,7 +132,7 @@ class Conversation:
         return disk.named.read == Path(self.path).read_bytes()
 
     def check(self, replies, image):
-        """Whether the image shows what was replied to, and at most one command more."""
+        """Whether the image shows the commands that had replies, and at most one more."""
         key = hashlib.blake2b(b"" if image is None else b"." + image, digest_size=16).digest()
         if key not in self.told:
             shown = self.judge.shows(image)
@@ -147,7 +149,7 @@ class Conversation:
             self.failures.append((replies, image, "by a yt of its own"))
 
     def result(self, seed):
-        """How many images there were, how many failed, and a word about the first of these, which are kept."""
+        """The number of images, the number of failures, and words about the first of these, which are kept."""
         kept = [] if self.judge.end() >= 0 else [f"conversation {seed}: yt was ended by a signal"]
         for number, (replies, image, why) in enumerate(self.failures[:SHOWN]):
             name = f"{self.bench.folder}-{seed}-{number}.yt"

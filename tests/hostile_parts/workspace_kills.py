@@ -1,9 +1,9 @@
 #!/usr/bin/env python3
-"""workspace_kills.py YT CALLS.SO COUNT: yt is killed in the midst of command lists; what it acknowledged has to be there.
+"""workspace_kills.py YT CALLS.SO COUNT: yt is killed in the midst of command lists; all that it acknowledged must be there.
 
-COUNT lists of commands: each is killed in place of every call of the system and after it, by workspace_calls.c, and COUNT times at random
-moments. Then the reference reads the file: it holds all commands that were acknowledged, and at most one more; and yt reads the same.
-The last line is 'N passed, M failed'.
+COUNT lists of commands. Each is killed in place of every system call and after it, by workspace_calls.c, and COUNT times at
+random moments. Then the reference reads the file: it must hold all acknowledged commands, and at most one more; and yt must read
+the same. The last line is 'N passed, M failed'.
 """
 import json
 import os
@@ -18,7 +18,7 @@ OPTIONS = ["--json", "--keep-going"]
 
 
 def acknowledged(out):
-    """How many commands were replied to in full."""
+    """The number of commands with a complete reply."""
     whole = out[:out.rfind(b"\n") + 1]
     return sum(1 for line in whole.splitlines() if not json.loads(line).get("more"))
 
@@ -36,7 +36,7 @@ class Kills:
         self.script = "".join(line + "\n" for line in lines).encode()
 
     def check(self, what, out):
-        """What is there: all that was acknowledged, and at most one more; and yt takes the file."""
+        """Checks the file: it has all that was acknowledged, and at most one more; and yt accepts it."""
         told = acknowledged(out)
         there = self.bench.stands_for(self.file)
         self.tally.holds(f"{what}: after {told} replies", there in self.states[told:told + 2])

@@ -1,10 +1,10 @@
 #!/usr/bin/env python3
-"""workspace_lines.py YT FIRST COUNT [LINES]: random scripts with garbled commands between theirs, by one process that goes on after faults.
+"""workspace_lines.py YT FIRST COUNT [LINES]: random scripts among garbled commands, for one process that goes on after faults.
 
-The commands of each script stand among LINES garbled ones (5,000), as a browser would send them. No command is lost: after every hundred lines a
-question of a number of its own is asked, and has its reply. Each reply has a status that such a command can have, the process ends by itself within
-two minutes, and its file is whole afterwards. Each line counts as one attack. JOBS processes in the environment. The last line is 'N passed, M
-failed'.
+The commands of each script stand among LINES garbled ones (5,000), as a browser would send them. No command may be lost: after
+every hundred lines a question with a number of its own is asked, and must have its reply. Each reply must have a status that its
+command can have, the process must end by itself within two minutes, and its file must be whole afterwards. Each line counts as
+one attack. JOBS in the environment is the number of processes. The last line is 'N passed, M failed'.
 """
 import json
 import os
@@ -41,7 +41,7 @@ def lines_of(seed, bench, count):
 
 
 def wrong(lines, run):
-    """What is wrong with what a process told of these lines, if something is."""
+    """What is wrong with the replies of a process to these lines, if anything."""
     asked = [line[10:] for line in lines if line.startswith(b"show Lost_") and line[10:].isdigit()]
     if run.returncode < 0:
         return f"ended by the signal {-run.returncode}"
@@ -54,7 +54,7 @@ def wrong(lines, run):
 
 
 def attacked(program, seed, count):
-    """How many lines were told, and what is wrong, if something is."""
+    """The number of lines given, and what is wrong, if anything."""
     with Bench(program) as bench:
         lines, path = lines_of(seed, bench, count), bench.path("w.yt")
         words = [program, "--json", "--no-files", "--keep-going", path]

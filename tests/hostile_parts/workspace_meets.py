@@ -1,9 +1,10 @@
 #!/usr/bin/env python3
-"""workspace_meets.py YT [cheap]: another program changes the file between two commands of a yt that stays.
+"""workspace_meets.py YT [cheap]: another program changes the file between two commands of a yt that stays open.
 
-The file is cut, a byte of it is changed, its end is zeroed, at each place; rubbish comes after it, another workspace takes its place or its bytes,
-it goes, it becomes a folder, its folder goes. Then yt shows, changes or folds: it ends by itself, it has replied with a status that fits, in
-words if it is a refusal, and after a refusal what is there is what the other program left. The last line is 'N passed, M failed'.
+The file is cut, a byte of it is changed, its end is zeroed, at each place. Rubbish comes after it, another workspace takes its
+place or its bytes, it is deleted, it becomes a folder, its folder is deleted. Then yt shows, changes or folds. It must end by
+itself, with a status that fits, in words if it refuses; and after a refusal everything is as the other program left it. The last
+line is 'N passed, M failed'.
 """
 import os
 import re
@@ -24,7 +25,7 @@ def bytes_at(path):
 
 
 class Meeting:
-    """A yt that has read a file, and meets what another program made of it."""
+    """A yt that has read a file, and then finds what another program made of it."""
 
     def __init__(self, bench, tally):
         self.bench, self.tally = bench, tally
@@ -54,7 +55,7 @@ class Meeting:
             shutil.rmtree(os.path.dirname(path), ignore_errors=True)
 
     def writes(self, what, data):
-        """The other program writes these bytes into the file, or puts them in its place."""
+        """Has the other program write these bytes into the file, or put them in its place."""
         self.meets(what, lambda path: Path(path).write_bytes(data))
         self.meets(f"{what}, in its place", lambda path: (Path(path + "2").write_bytes(data), os.replace(path + "2", path)))
 

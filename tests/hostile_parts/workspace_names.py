@@ -1,9 +1,11 @@
 #!/usr/bin/env python3
-"""workspace_names.py YT CALLS.SO RECORD.SO: a process that makes or folds a file is killed at each of its calls, and the next one changes the file.
+"""workspace_names.py YT CALLS.SO RECORD.SO: a process that makes or folds a file is killed at each call; the next one changes the
+file.
 
-workspace_calls.c kills it in place of each call of the system and after it, so also between the name of the file and the sync of its folder. A
-second process says two commands, each as one of its own. What workspace_record.c recorded says what a power cut then leaves at the path: after each
-reply that is the file with what was replied to, and never no file or the one before. The last line is 'N passed, M failed'.
+workspace_calls.c kills it in place of each system call and after it, so also between the name of the file and the sync of its
+folder. A second process gives two commands, each in a process of its own. The record of workspace_record.c tells what a power cut
+then leaves at the path: after each reply it must be the file with the acknowledged commands, and never no file or the file
+before. The last line is 'N passed, M failed'.
 """
 import os
 import shutil
@@ -24,7 +26,7 @@ class Names:
         self.path, self.told = bench.path("disk/w.yt"), bench.path("told")
 
     def place(self, before):
-        """The folder after these commands, all of which a disk has."""
+        """The folder after these commands, all of it synced."""
         shutil.rmtree(self.folder, ignore_errors=True)
         os.mkdir(self.folder)
         for line in before:
@@ -35,7 +37,7 @@ class Names:
             self.disk.files[str(found.st_dev * 10 ** 12 + found.st_ino)] = self.disk.named
 
     def says(self, line, **more):
-        """One process says the line; what it did to the disk."""
+        """Gives the line to one process, and returns what it did to the disk."""
         Path(self.record).unlink(missing_ok=True)
         preloaded = f"{self.calls}:{self.library}" if more else self.library
         status = yt(self.bench.program, [self.path, line], LD_PRELOAD=preloaded, RECORD_TO=self.record, **more)[0]
@@ -44,7 +46,7 @@ class Names:
         return status
 
     def is_kept(self, line):
-        """Whether whatever a power cut leaves has all writes of the file that stands there, and none of them is open."""
+        """Whether a power cut can only leave the file that stands at the path, with all its writes synced."""
         states = self.disk.state()
         return all(state and not state[1] and state[0] == Path(self.path).read_bytes() for state in states)
 

@@ -1,9 +1,10 @@
 #!/usr/bin/env python3
-"""workspace_places.py YT: what is at the path is no good file, or may not be read or written, or is in use.
+"""workspace_places.py YT: the path names no good file, or a file that may not be read or written, or that is in use.
 
-Folders, pipes, devices, sockets, links of every kind, long and odd names, files and folders without permission, a file system that is only read,
-files that others have locked. Then: a status that fits, in words, and what is there stays as it was; a link stays a link. What the system does
-not let us do here (a mount, another user) is said, and not counted. The last line is 'N passed, M failed'.
+Folders, pipes, devices, sockets, links of every kind, long and odd names, files and folders without permission, a read-only file
+system, files that others have locked. yt must give a status that fits, in words, and everything must stay as it was; a link stays
+a link. What the system does not allow here (a mount, another user) is reported, and not counted. The last line is 'N passed, M
+failed'.
 """
 import fcntl
 import os
@@ -18,7 +19,7 @@ from workspace_runs import Bench, Tally, yt
 
 NOBODY = 65534
 CREATE, CHANGE, FOLD = "relation A(x, y)", "insert A(1, ?), A(2, 2)", "fold"
-# The mode of a file, that of its folder, and what may be told of a look, a change and a fold.
+# The mode of a file, the mode of its folder, and the statuses that a look, a change and a fold may give.
 MODES = [(0o000, 0o755, [5], [5, 6], [5, 6]), (0o444, 0o755, [0], [6], [6]), (0o666, 0o555, [0], [0], [6]), (0o222, 0o755, [5], [5, 6], [5, 6]),
          (0o666, 0o000, [5], [5, 6], [5, 6])]
 WORDS = {3: b"there is no ", 5: b"cannot read", 6: b"cannot write", 12: b"is damaged"}
@@ -40,7 +41,7 @@ class Places:
         return str(path)
 
     def says(self, what, path, line, statuses, **how):
-        """yt has one of these statuses, and says why."""
+        """Checks that yt gives one of these statuses, and says why."""
         run = subprocess.run([self.bench.program, path, line], capture_output=True, timeout=60, stdin=subprocess.DEVNULL, **how)
         told = run.returncode, run.stdout, run.stderr
         is_right = run.returncode in statuses and (run.returncode == 0 or run.stderr.startswith(b"yt: ") and WORDS[run.returncode] in run.stderr)
@@ -53,7 +54,7 @@ class Places:
         self.says(what, path, FOLD, change, **how)
         self.says(what, path, CREATE, create, **how)
 
-    # ---- what is no file ----
+    # ---- not a file ----
 
     def no_files(self):
         folder = self.path("folder/x")[:-2]
@@ -122,7 +123,7 @@ class Places:
         self.says("a second name", self.bench.path("second.yt"), FOLD, [0])
         self.tally.holds("the first name has the old file", Path(target).read_bytes() == before)
 
-    # ---- what may not be read or written ----
+    # ---- no permission to read or write ----
 
     def permissions(self):
         if os.getuid():
@@ -158,7 +159,7 @@ class Places:
             self.says("a file system that is only read", folder + "/new.yt", CREATE, [6])
             subprocess.run(["umount", folder], check=True)
 
-    # ---- what others do ----
+    # ---- files that others use ----
 
     def in_use(self):
         path = self.path("used.yt", self.data)

@@ -1,10 +1,10 @@
 #!/usr/bin/env python3
-"""workspace_room.py YT [cheap]: there is no room for what yt writes: a small tmpfs that is full, and a limit on the size of files.
+"""workspace_room.py YT [cheap]: there is no room for what yt writes: a small tmpfs that is full, or a limit on the size of files.
 
-Of the file system of its own 0, 1, 2 .. pages are left, and the limit is 0, 1, 2 .. bytes, until the command is done: one that makes a file, appends
-a short record or a long one, folds, or makes a file with a long record. Then: status 6 in words, and the file as before or with the record;
-nothing is left beside it. A limit may also kill yt. A file system that cannot be mounted here is said, and not counted. The last line is
-'N passed, M failed'.
+The file system has 0, 1, 2 .. pages left, and the limit is 0, 1, 2 .. bytes, until the command is done. The command makes a file,
+appends a short or a long record, folds, or makes a file with a long record. yt must give status 6 in words, with the file as
+before or with the record, and leave nothing beside it. A limit may also kill yt. If no file system can be mounted here, this is
+reported and not counted. The last line is 'N passed, M failed'.
 """
 import errno
 import os
@@ -33,7 +33,7 @@ def mounted(bench):
 
 
 class Room:
-    """Commands, each over the file before it, where there may be no room for what they write."""
+    """Commands, each over the file before it, with perhaps no room for what they write."""
 
     def __init__(self, bench, tally, cheap):
         self.bench, self.tally, self.cheap = bench, tally, cheap
@@ -69,7 +69,7 @@ class Room:
         return run.returncode == 0
 
     def limited(self):
-        """No file may grow beyond a limit; who tries gets an error, or is killed."""
+        """Sets a limit on the size of files. A process that writes beyond it gets an error, or is killed."""
         os.mkdir(self.bench.path("limited"))
         for answer in (signal.SIG_IGN, signal.SIG_DFL):
             for command in self.commands:
@@ -89,7 +89,7 @@ class Room:
             size += 1 + (297 if self.cheap else size // 500)
 
     def full(self):
-        """So many pages of the file system are left."""
+        """Leaves this number of pages of the file system."""
         folder = mounted(self.bench)
         if not folder:
             return
@@ -107,7 +107,7 @@ class Room:
 
 
 def filled(path, pages):
-    """A file that takes all pages but these."""
+    """Makes a file that takes all pages but these."""
     size = 0
     with open(path, "wb", buffering=0) as file:
         try:

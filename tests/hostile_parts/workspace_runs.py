@@ -1,4 +1,4 @@
-"""Runs yt and its reference on workspaces of their own, and says what a file stands for."""
+"""Runs yt and its reference on workspaces of their own, and tells what a file stands for."""
 import os
 import random
 import shutil
@@ -16,13 +16,13 @@ from oracle.yt.workspace import Workspace          # noqa: E402
 os.environ.update(YT_TIME="2026-11-30T09:00:00Z", YT_CURATOR="ann", LC_ALL="C.UTF-8")
 LOOKS = b"show\nlog\nquestions\nviolations\nstatus\n"
 NEVER = "there is no file"
-# What yt is known to tell otherwise than the reference counts only with STRICT in the environment, in `guided`: of a forged file with several faults
-# another one first, or none, and a control character in the name of a file that is not there.
+# Known differences between yt and the reference count only with STRICT in the environment, in `guided`: of a forged file with
+# several faults another one is first, or none; and a control character in the name of a file that does not exist.
 STRICT = "STRICT" in os.environ
 
 
 def yt(program, words, data=b"", **environment):
-    """The status of yt, and what both streams took."""
+    """The status of yt, and the bytes on both streams."""
     files = [file_of(data), file_of(b""), file_of(b"")]
     actions = [(os.POSIX_SPAWN_DUP2, file, place) for place, file in enumerate(files)]
     run = os.posix_spawn(program, [program, *words], {**os.environ, **environment}, file_actions=actions)
@@ -30,7 +30,7 @@ def yt(program, words, data=b"", **environment):
 
 
 def by_reference(words, data=b""):
-    """The same of the reference, in a process of its own."""
+    """The status of the reference, and the bytes on both streams, in a process of its own."""
     files = [file_of(data), file_of(b""), file_of(b"")]
     run = os.fork()
     if run == 0:
@@ -57,7 +57,7 @@ def ended(run, files):
 
 
 class Bench:
-    """A folder for workspaces, and what the reference reads in them. It goes when the test ends."""
+    """A folder for workspaces, and what the reference reads in them. It is deleted when the test ends."""
 
     def __init__(self, program, *options):
         self.program, self.options, self.read = program, ["--keep-going", *options], {}
@@ -73,7 +73,7 @@ class Bench:
         return os.path.join(self.folder, name)
 
     def stands_for(self, file):
-        """What the reference tells of a file, by its bytes. The copy of it has always the same name, which `status` tells."""
+        """The answer of the reference to a file, by its bytes. The copy has always the same name, because `status` prints it."""
         if not os.path.exists(file):
             return NEVER
         data = Path(file).read_bytes()

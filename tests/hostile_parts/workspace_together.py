@@ -1,9 +1,10 @@
 #!/usr/bin/env python3
-"""workspace_together.py YT COUNT: many processes of yt change one file at once, and some of them are killed.
+"""workspace_together.py YT COUNT: many processes of yt change one file at the same time, and some of them are killed.
 
-COUNT times 8 and 16 processes insert tuples of their own, answer, undo and fold, each a command at a time. Every command that was acknowledged is
-there afterwards, by what the reference reads; each has a record of its own; and what a killed process had not acknowledged is there or not.
-The last line is 'N passed, M failed'.
+COUNT times 8 and 16 processes insert tuples of their own, answer, undo and fold, each one command at a time. Every acknowledged
+command must be there afterwards, as the reference reads it, with a record of its own; a command that a killed process had not
+acknowledged may be there or not. Then 8 processes insert 200 tuples each, and the log has 1,600 records more, those of each
+process in its order. The last line is 'N passed, M failed'.
 """
 import json
 import os
@@ -15,11 +16,12 @@ import time
 from workspace_runs import Bench, Tally, by_reference, yt
 
 EACH = 6           # commands of a process
+LONG = 200         # commands of a process that is not killed, where the order of records is looked at
 BEGIN = ["relation A(who, what)", "relation B(who, more)", "mapping m: A(x, y) -> B(x, z)"]
 
 
 def commands(rng, name):
-    """What one process says, one after the other."""
+    """The commands of one process, one after the other."""
     for number in range(EACH):
         yield "insert A(%d, %d)" % (name, number)
         if rng.random() < 0.15:
@@ -27,10 +29,10 @@ def commands(rng, name):
 
 
 class Process:
-    """One process of yt that gets its commands at once, and is perhaps killed."""
+    """One process of yt that gets all its commands at once, and may be killed."""
 
-    def __init__(self, bench, file, rng, name, killed):
-        self.lines = list(commands(rng, name))
+    def __init__(self, bench, file, name, lines, killed=False):
+        self.lines = lines
         self.killed = killed
         self.run = subprocess.Popen([bench.program, "--as", "p%d" % name, "--json", "--keep-going", "--wait", "120", file],
                                     stdin=subprocess.PIPE, stdout=subprocess.PIPE, stderr=subprocess.PIPE)
@@ -38,7 +40,7 @@ class Process:
         self.run.stdin.close()
 
     def end(self):
-        """The replies that came in full."""
+        """The replies that came complete."""
         if self.killed:
             time.sleep(0.02)
             self.run.kill()
@@ -48,13 +50,32 @@ class Process:
         return [json.loads(line) for line in whole.splitlines()]
 
 
-def play(bench, tally, rng, count, kills):
+def opened(bench):
+    """A new workspace with two relations and a mapping."""
     file = bench.path("together.yt")
     if os.path.exists(file):
         os.unlink(file)
     for line in BEGIN:
         yt(bench.program, [file, line])
-    processes = [Process(bench, file, rng, name, kills and name % 4 == 3) for name in range(count)]
+    return file
+
+
+def play_in_order(bench, tally):
+    """8 processes at the same time: a record for each command, those of a process in its order."""
+    file = opened(bench)
+    said = [["insert A(%d, %d)" % (name, number) for number in range(LONG)] for name in range(8)]
+    for process in [Process(bench, file, name, lines) for name, lines in enumerate(said)]:
+        tally.holds("each command is replied to", len(process.end()) == LONG)
+    log = [json.loads(line) for line in yt(bench.program, ["--json", file, "log"])[1].splitlines()]
+    tally.holds("1,600 records", len(log) == len(BEGIN) + 8 * LONG)
+    for name, lines in enumerate(said):
+        tally.holds(f"the records of process {name} are in its order",
+                    [record["line"] for record in log if record["curator"] == "p%d" % name] == lines)
+
+
+def play(bench, tally, rng, count, kills):
+    file = opened(bench)
+    processes = [Process(bench, file, name, list(commands(rng, name)), kills and name % 4 == 3) for name in range(count)]
     replies = [process.end() for process in processes]
     there = by_reference(["--json", file, "show A"])
     rows = {tuple(row) for row in json.loads(there[1])["rows"]} if there[0] == 0 else set()
@@ -81,6 +102,7 @@ def main():
         for number in range(count):
             for processes in (8, 16):
                 play(bench, tally, rng, processes, number % 2)
+        play_in_order(bench, tally)
     tally.end()
 
 

@@ -1,10 +1,12 @@
 #!/usr/bin/env python3
-"""workspace_verbs.py YT CALLS.SO [cheap|STRIDE]: each request of memory is refused in turn, in commands of every verb; then all from there on.
+"""workspace_verbs.py YT CALLS.SO [cheap|STRIDE]: requests of memory are refused, in commands of every verb: each in turn, then
+all after it.
 
-Each command of one conversation, over the file before it, in text and with --json. Then: status 7, in words if only one request was refused, and
-the file as before; or what yt tells undisturbed. Also each call of the system fails with each error, as in workspace_calls.py. Cheap: some of the
-requests, in text alone. With a STRIDE the distance between two grows by one after each FEW. JOBS processes in the environment. The last line is
-'N passed, M failed', with the numbers of each status before it.
+Each command of one conversation, over the file before it, in text and with --json. yt must give status 7, in words if only one
+request was refused, with the file as before; or its undisturbed answer. Also each system call fails with each error, as in
+workspace_calls.py. Cheap: some of the requests, only in text. With a STRIDE the distance between two requests grows by one after
+each FEW. JOBS in the environment is the number of processes. The last line is 'N passed, M failed', with the numbers of each
+status before it.
 """
 import collections
 import os
