@@ -1,8 +1,8 @@
 #!/usr/bin/env python3
-"""bench/conversation.py [UPDATES]: a conversation of ten lines an update, by default 1,000 updates, for `yt_live`.
+"""bench/conversation.py [UPDATES]: a conversation for `yt_live`, of ten lines for each update, by default 1,000 updates.
 
-Each painting hangs in a museum of which houses are known: its update makes three steps and stops at a question, which is
-asked for and answered by one of the houses; then it is stepped to its end.
+Each painting hangs in a museum whose houses are known. Its update makes three steps and stops at a question; the question is
+asked for, and answered by one of the houses; then the update is stepped to its end.
 """
 import sys
 

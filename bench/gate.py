@@ -1,11 +1,11 @@
 #!/usr/bin/env python3
-"""gate.py [LANES] [CRATE..]: what each crate costs the gate, in processor seconds: its proof with its tests, and its must-fail edits.
+"""gate.py [LANES] [CRATE..]: the cost of each crate in the gate, in processor seconds: its proof with its tests, and its edits.
 
-Each crate, or each of those named with those below, is proved from nothing in a copy of the repository that has the libraries below it, as
-they were proved before, and nothing else that was kept; then its edits are tried in another such copy, as the gate does, by `rt must-fail`.
-So a figure is of one crate alone. Crates with the longest chain above them go first, and edits fill what proofs leave free. The table goes to
-standard output as lines of Markdown, dearest first, with a line of sums; what fails is told on standard error, with the end of its log,
-and the status is then 1.
+Each crate, or each crate that is named and the crates below it, is proved from nothing in a copy of the repository that has the
+proved libraries below it and nothing else that was kept. Then its must-fail edits are tried in another such copy, as the gate
+does, by `rt must-fail`. So each figure is of one crate alone. Crates with the longest chain above them go first, and edits fill
+the time that proofs leave free. The table goes to standard output as lines of Markdown, most expensive first, with a line of
+sums. Failures go to standard error, with the end of the log, and the status is then 1.
 """
 import os
 import re
@@ -28,7 +28,7 @@ def below(root):
 
 
 def copy_of(scratch, kind, crate):
-    """A copy of the repository with the libraries that were proved so far, and of the edits with those of the crate alone."""
+    """A copy of the repository with the libraries proved so far; to try edits, also with the must-fail edits of the crate."""
     copy = f"{scratch}/{kind}-{crate}"
     shutil.copytree(f"{scratch}/bare", copy, symlinks=True)
     for library in os.listdir(f"{scratch}/proved"):
@@ -39,7 +39,7 @@ def copy_of(scratch, kind, crate):
 
 
 def seconds(folder, *commands):
-    """Processor seconds that the commands take there in turn, and what they told where one failed."""
+    """The processor seconds of the commands, run there in turn, and the output of the one that failed."""
     code = "import resource,subprocess,sys\n" \
         "with open(sys.argv[1], 'w') as log: s = max(subprocess.call(it.split(), stdout=log, stderr=log) for it in sys.argv[2:])\n" \
         "u = resource.getrusage(resource.RUSAGE_CHILDREN); print(u.ru_utime + u.ru_stime); sys.exit(s)"
@@ -93,7 +93,7 @@ def chains(stands, wanted):
 
 
 def wanted_of(stands, words):
-    """The crates of these names and those below them; all where there is no name."""
+    """The crates of these names and the crates below them; all crates if there is no name."""
     wanted = set(words or stands)
     while any(it not in wanted for crate in wanted for it in stands[crate]):
         wanted |= {it for crate in wanted for it in stands[crate]}
@@ -101,7 +101,7 @@ def wanted_of(stands, words):
 
 
 def run_all(lanes, stands, wanted, scratch):
-    """Runs proofs and edits side by side, tells of each as it ends, and gives the figures of each by crate, and what failed."""
+    """Runs proofs and edits side by side, prints each as it ends, and returns the figures by crate and the failures."""
     behind, figures, failed = chains(stands, wanted), {}, []
     proofs = sorted(wanted, key=lambda it: -behind[it])
     edits, done, running = [], set(), {}

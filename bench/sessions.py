@@ -5,13 +5,13 @@ random      insertions and deletions over four relations and three mappings, som
 chain       one relation after the other, each copied into the next; every update inserts a number into the first
 groups      16 groups of four relations and four mappings with joins, over a base that meets them
 shop        customers, orders and products: joins of 4 to 6 atoms with a fan-out, over a base that meets four mappings; updates
-            find nothing (`quiet`), or a quarter of them 1 to 3 violations (`mixed`), which may ask (`ask`)
+            find nothing (`quiet`), or a quarter of them find 1 to 3 violations (`mixed`), which may ask (`ask`)
 join        three mappings with joins of two atoms over a base that meets them, without unknowns
 contention  insertions at one end of a chain of relations, deletions at the other, so that updates conflict
 answers     insertions that each draw a null and ask whether it is that of a tuple of the base, which the answer says it is
 order       one mapping whose atoms on one side stand in a bad order, over a base that meets it (orders.py)
 
-The sessions are the same at each run: numbers come from generators with a seed.
+The sessions are the same at each run: the numbers come from generators with a seed.
 """
 import argparse
 import random
@@ -37,14 +37,14 @@ mapping m1: City(x, c) -> Country(c, z)
 mapping m2: Airport(a, x) -> City(x, c)
 mapping m3: Tour(t, x, y) -> City(x, c), City(y, d)'''
 
-# What an update does, drawn from ten: the operation, its relation, and how many values each column has.
+# What an update does, drawn from ten: the operation, its relation, and the number of values of each column.
 RANDOM_OPERATIONS = (
     [('insert', 'City', (50, 20))] * 4 + [('insert', 'Airport', (200, 50))] * 2 + [('insert', 'Tour', (100, 50, 50))] * 2
     + [('delete', 'City', (50, 20)), ('insert', 'Country', (20, 20))])
 
 
 def draws(seed):
-    """The upper bits of a linear congruential generator, each as a function of how many values it may have."""
+    """The upper bits of a linear congruential generator, each as a function of the number of values it may have."""
     state = seed
     while True:
         state = (state * 6364136223846793005 + 1442695040888963407) % 2**64
@@ -103,7 +103,7 @@ class Group:
 
 
 def reach_all(groups):
-    """Adds to what each group's D has to reach what the last mapping of the group before it asks for."""
+    """Adds to what each group's D has to reach the tuples that the last mapping of the group before asks for."""
     grown = True
     while grown:
         grown = False
@@ -205,7 +205,7 @@ class ShopTargets:
         self.medium = {(m, g) for g, _, m in self.advert}
 
     def missing(self, rng, number, count, targets):
-        """A new key that lacks 1 to 3 of so many kinds in the targets."""
+        """A new key that lacks 1 to 3 of `count` kinds in the targets."""
         key = 1000 + number
         lacking = set(rng.sample(range(count), rng.randint(1, 3)))
         targets |= {(key, k) for k in range(count) if k not in lacking}
@@ -223,7 +223,7 @@ class ShopTargets:
 
 
 def shop_operation(rng, targets, kind, share, number):
-    """The tuple that the update inserts, and how many answers it has."""
+    """The tuple that the update inserts, and the number of its answers."""
     bad = kind != 'quiet' and rng.random() < share
     what = rng.choice(('offer', 'offer', 'reach', 'advert')) if kind != 'ask' else rng.choice(('offer', 'reach', 'advert', 'advert'))
     key = rng.randrange(DISCOUNTS)

@@ -1,9 +1,10 @@
 #!/usr/bin/env python3
-"""watch.py: what each crate costs while the gate runs, in processor seconds: its proof, its tests and its must-fail edits.
+"""watch.py: the cost of each crate while the gate runs, in processor seconds: its proof, its tests and its must-fail edits.
 
-It looks at the prover's processes until it is told to end (a signal, or the end of the process whose number is given), and runs nothing
-itself, so the figures are of one whole run of the gate as it is. A process is looked at five times a second: what it took after the last
-look is not told. The table goes to standard output as lines of Markdown, dearest first, with a line of sums.
+It watches the prover's processes until it is told to end, by a signal or by the end of the process whose number is given. It runs
+nothing itself, so the figures are of one whole run of the gate as it is. It looks at each process five times a second; what a
+process used after the last look is not counted. The table goes to standard output as lines of Markdown, most expensive first,
+with a line of sums.
 """
 import os
 import signal
@@ -16,7 +17,7 @@ KINDS = ("proof", "tests", "edits")
 
 
 def processes():
-    """The prover's processes: for each its number with the time of its start, its words, its folder and its processor seconds."""
+    """The prover's processes: for each its number with its start time, its words, its folder and its processor seconds."""
     for pid in filter(str.isdigit, os.listdir("/proc")):
         try:
             with open(f"/proc/{pid}/cmdline", "rb") as file:
@@ -31,14 +32,14 @@ def processes():
 
 
 def kind_of(words, folder):
-    """The crate that a process works at, and whether it tries an edit, proves tests, or proves the crate."""
+    """The crate of a process, and whether it tries an edit, proves tests, or proves the crate."""
     crate = words[words.index("--crate-name") + 1] if "--crate-name" in words else "other"
     is_edit = any("/rt-edit" in it for it in [folder, *words])
     return crate, "edits" if is_edit else "tests" if "--test" in words else "proof"
 
 
 def watch(until):
-    """Looks at the processes until `until` says that it is enough; for each crate and kind the seconds that its processes took."""
+    """Watches the processes until `until` returns true; returns for each crate and kind the seconds that its processes used."""
     last = {}
     while not until():
         for key, words, folder, seconds in processes():

@@ -1,10 +1,11 @@
 #!/usr/bin/env python3
-"""workers.py PROGRAM [--times N] [--workers 1,2,4] [--processors N] [SESSION..]: what `run` costs by several workers.
+"""workers.py PROGRAM [--times N] [--workers 1,2,4] [--processors N] [SESSION..]: the cost of `run` by several workers.
 
-Each session is given as the words of sessions.py, as 'shop --kind quiet --fan 10'; without any the usual ones are taken. The runs are
-interleaved: all numbers of workers once, then all again, N times (7). A line of Markdown for each session has the medians of the wall and
-processor seconds, and in how far the wall of the first number of workers is that of the others; the load of the machine before and
-after is told on standard error. Every run has to write the same bytes. With --processors the program has the first N processors alone.
+Each session is given as the words of sessions.py, such as 'shop --kind quiet --fan 10'; without any the usual ones are taken. The
+runs are interleaved: all numbers of workers once, then all again, N times (7). For each session a line of Markdown has the
+medians of the wall and processor seconds, and the ratio of the first wall time to each of the others. The load of the machine
+before and after goes to standard error. Every run must write the same bytes. With --processors the program has only the first N
+processors.
 """
 import argparse
 import os
@@ -20,7 +21,7 @@ USUAL = ("shop --kind quiet --fan 10", "shop --kind quiet --fan 3", "shop --kind
 
 
 def timed(program, session, workers, processors):
-    """Wall and processor seconds of one run, and what it wrote."""
+    """The wall and processor seconds of one run, and its output."""
     words = [program, "run", "--workers", str(workers)]
     limit = (lambda: os.sched_setaffinity(0, range(processors))) if processors else None
     before, start = resource.getrusage(resource.RUSAGE_CHILDREN), time.monotonic()

@@ -1,10 +1,10 @@
 #!/usr/bin/env python3
-"""Writes the stdin and the stdout of crates/try_core and crates/try_desk: worked lists of calls on a core and on a desk, and
-what the reference tells of them.
+"""Writes the stdin and the stdout of crates/try_core and crates/try_desk: worked lists of calls on a core and on a desk, and the
+answers of the reference.
 
-The rows on a core show conflicts, cascades, holds and withdrawals; then come all pairs of a standing and a call, whose answers have to
-be those of the grid below, and a core that is full. Those on a desk show tickets, and plans that are stale, and
-have two sessions explored.
+The rows on a core show conflicts, cascades, holds and withdrawals. After them come all pairs of a standing and a call, whose
+answers must match the grid below, and a core that is full. The rows on a desk show tickets and stale plans, and explore two
+sessions.
 """
 import sys
 from pathlib import Path
@@ -83,7 +83,7 @@ update b bob insert A(2)
 """
 ADDED_TO_MANY = ADDED.replace("base A(1)\n", "base A(1)\nbase A(3)\nbase A(4)\n")
 
-# What each row shows, its steps, retries and session, and its calls; a number before a call says how often it is made.
+# The name of each row, its steps, retries and session, and its calls; a number before a call says how often it is made.
 ROWS = [
     ("a conflict aborts an update that has ended", 100, 3, INSERT_DELETE,
      "2 step u2, standing u2, counts, step u1, standing u2, drain, counts, result"),
@@ -106,13 +106,18 @@ ROWS = [
      "3 step u1, 4 step u2, standing u2, step u1, standing u1, standing u2, drain, result"),
     ("who looked at an added mapping depends on the update that added it: that one is withdrawn", 100, 3, ADDED,
      "step u1, 4 step u2, standing u2, withdraw u1, standing u1, standing u2, drain, counts"),
+    ("the repository is what the committed updates left, whatever those above have done", 100, 3, INSERT_DELETE,
+     "repository, 2 step u2, repository, 4 step u1, counts, repository, drain, repository"),
+    ("an update that names a null of no lower update is unfit", 100, 3, TAKEN_NULL,
+     "update d dee insert C(?4.1), counts, update d dee insert C(?2.2), counts, drain, repository"),
 ]
 
-# For each standing of update 2 what step, deliver, answer and withdraw answer: made, not ready, not pending or paused, withdrawn.
+# For each standing of update 2, the answers of step, deliver, answer and withdraw: made, not ready, not pending or paused,
+# withdrawn.
 GRID = {"ready": "mppm", "held": "rppm", "pending": "rmmm", "misfit": "rpmm", "done": "rppm", "spent": "rppm",
         "refused": "rppm", "withdrawn": "rppw"}
 TWO_CITIES = CITIES + 'update z zed insert City("a", "b")\nupdate a ann insert City("Ithaca", "US")\n'
-# How update 2 comes to stand so, with update 1 open below it: steps, retries, session and calls.
+# How update 2 comes to this standing, with update 1 open below it: steps, retries, session and calls.
 STANDING = {
     "ready": (100, 3, TWO_CITIES, ""),
     "held": (100, 0, INSERT_DELETE, "2 step u2, step u1"),
@@ -128,14 +133,14 @@ BEGINS = {"m": '{"', "r": "refused not ready: ", "p": "refused not p", "w": "ref
 
 
 def calls_of(text):
-    """The calls of a row, one a line."""
+    """The calls of a row, one on each line."""
     for item in filter(None, text.split(", ")):
         times, _, call = item.partition(" ")
         yield from [call] * int(times) if times.isdigit() else [item]
 
 
 def joined(text):
-    """The calls of a row; a comma within brackets stands in a fact."""
+    """The calls of a row; a comma within brackets belongs to a fact."""
     lines = []
     for call in calls_of(text):
         if lines and lines[-1].count("(") > lines[-1].count(")"):
@@ -146,7 +151,7 @@ def joined(text):
 
 
 def told(title, steps, retries, precise, text, calls):
-    """A case and what is told of it."""
+    """A case and its output."""
     session = read_session(b"youtopia 2\n" + text.encode() + b"end\n")
     lines = [line.encode() for line in ["# " + title, *calls]]
     caller = Caller(session, steps, retries, precise)
@@ -160,7 +165,7 @@ def rows():
 
 
 def pairs():
-    """Each pair of a standing and a call, which has to answer as the grid says."""
+    """Each pair of a standing and a call, whose answer must match the grid."""
     for standing, cells in GRID.items():
         steps, retries, text, before = STANDING[standing]
         for call, cell in zip(CALLS, cells):
@@ -177,7 +182,7 @@ def full():
     yield told("1,000 updates are the most", 100, 3, True, text, calls)
 
 
-# What each row shows, and calls on a desk with their answers, as they are to be; the reference has to tell the same.
+# The name of each row, and calls on a desk with the answers they must have; the reference must give the same.
 TWO_INSERTS = "relation A 1\nupdate a ann insert A(1)\nupdate b bob insert A(2)\n"
 ONE_INSERT = "relation A 1\nupdate a ann insert A(1)\n"
 BOTH_PLANNED = """next s1: ticket 1 of update 1, stamp 2
@@ -220,7 +225,7 @@ def desk_rows():
 
 
 def explorations():
-    """Every order of two seats for a few calls, and of three."""
+    """Every order of two seats, and of three, for a few calls."""
     for text, retries, precise, seats, calls in ((INSERT_DELETE, 3, True, 2, 6), (CASCADE, 0, False, 3, 4)):
         session = read_session(b"youtopia 2\n" + text.encode() + b"end\n")
         yield explored(session, 100, retries, precise, seats, calls)

@@ -1,8 +1,9 @@
 #!/usr/bin/env python3
-"""Writes the stdin and the stdout of crates/try_explanation: the sessions of the rows, and which explanations are right.
+"""Writes the stdin and the stdout of crates/try_explanation: the sessions of the rows, and the right explanations.
 
-What is right comes from the reference alone: a list of reasons is taken exactly where it is not empty and is the reference's
-explanation of its first tuple. Each explanation of a tuple that a run leaves is broken at each of its reasons in each way.
+The reference alone decides which explanations are right: a list of reasons is accepted exactly if it is not empty and is the
+reference's explanation of its first tuple. Each explanation of a tuple that a run leaves is broken at each of its reasons in each
+way.
 """
 import sys
 from pathlib import Path
@@ -55,7 +56,7 @@ WAYS = {
 
 
 def sessions():
-    """The texts of the rows, and the sessions that they spell."""
+    """The texts of the rows, and the sessions that they stand for."""
     for name in ROWS.split():
         text = (TESTS / "rows" / name / "session").read_bytes()
         yield text, read_session(text)

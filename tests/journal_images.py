@@ -1,13 +1,14 @@
 #!/usr/bin/env python3
 """tests/journal_images.py [PROGRAM [FIRST COUNT]]: what a crash may leave at each moment of appends, recovered by the program.
 
-The program writes a journal of three commits, or of COUNT random sessions, one each. From the journal without a commit on, each commit is then
-appended by the four calls of an append: the record behind the gate, a sync, the gate, a sync. After each call every image is made that a crash then
-may leave: nothing but what is synced where no write is open; else the file ends at each place from its old end on, and the open
-range holds zeros, ones, its old bytes, random bytes, or the new bytes up to any place and one of these from there on. The gate
-takes each of its 256 values. Once the file ends at the gate, and once stale bytes stand behind it, an old record among them.
-Each image has to be recovered to the commits before or to those with the new one, and after the last sync to the latter.
-JOBS processes in the environment. The last line is 'N passed, M failed'.
+The program writes a journal of three commits, or of COUNT random sessions, one journal each. From the journal without a commit
+on, each commit is then appended by the four calls of an append: the record after the gate, a sync, the gate, a sync. After each
+call every image is made that a crash may leave then. If no write is open the image is what is synced. Otherwise the file ends at
+each place from its old end on, and the open range holds zeros, ones, its old bytes, random bytes, or the new bytes up to any
+place and one of these from there on. The gate takes each of its 256 values. Once the file ends at the gate, and once stale bytes
+stand after it, with an old record among them. Each image must be recovered to the commits before or to the commits with the new
+one, and after the last sync to the latter. JOBS in the environment is the number of processes. The last line is 'N passed, M
+failed'.
 """
 import os
 import random
@@ -53,14 +54,14 @@ def over(data, place, part):
 
 
 def fills(rng, old, new):
-    """What an open range may hold, of many things some."""
+    """What an open range may hold; some of many possibilities."""
     size = len(new)
     kinds = [bytes(size), b"\1" * size, b"\xff" * size, (old + bytes(size))[:size], rng.randbytes(size)]
     return kinds + [new[:cut] + kind[cut:] for kind in kinds for cut in range(1, size + 1)]
 
 
 def images(rng, stable, place, new):
-    """What a crash may leave of these bytes while the new ones are being written at the place."""
+    """The images that a crash may leave of these bytes while the new bytes are written at the place."""
     made = set()
     for fill in fills(rng, stable[place:place + len(new)], new):
         whole = over(stable, place, fill) + rng.randbytes(2)
@@ -83,7 +84,7 @@ class Attack:
         self.expected.append((image, allowed))
 
     def appends(self, disk):
-        """Each record is appended to what stands on the disk."""
+        """Appends each record to the bytes on the disk."""
         gate = len(self.first)
         for count, record in enumerate(self.records):
             before, either, after = self.told[count:count + 1], self.told[count:count + 2], self.told[count + 1:count + 2]

@@ -4,14 +4,14 @@
 kills    a process that appends is killed at a random moment; what it had not synced is torn, cut, zeroed or made random, and the
          gate that it had not acknowledged takes any byte. All that it acknowledged is there, and at most one text more.
 bits     each bit of a small log is flipped, one at a time
-damages  logs are cut, overwritten, and put together anew at random
-crowd    processes append at once to one file: all texts, each process's in its order
-folds    some of them fold meanwhile: a text is behind the last fold or was there before one
-stays    a process that stays reads what others append and fold, and appends in between
+damages  logs are cut, overwritten, and reassembled at random
+crowd    processes append to one file at the same time: all texts are there, each process's texts in its order
+folds    some of them fold meanwhile: a text stands after the last fold, or was there before one
+stays    a process that stays open reads what others append and fold, and appends in between
 limits   a file that may not grow: the append is refused, and what was acknowledged stays
 
-What is right comes from a reader of its own (`read`), never from the program. ROUNDS and SEED in the environment.
-The last line is 'N passed, M failed'.
+The right answer comes from a reader of its own (`read`), never from the program. ROUNDS and SEED in the environment. The last
+line is 'N passed, M failed'.
 """
 import hashlib
 import os
@@ -71,13 +71,13 @@ def frame_at(data, place):
 
 
 def sealed_at(before, data, place):
-    """The mark of the payload at the place, and where it ends, if it is whole and has its mark."""
+    """The mark of the payload at the place, and the place of its end, if it is whole and has its mark."""
     found = frame_at(data, place)
     return (found[0][:16], found[1]) if found and text_in(before, found[0]) is not None else None
 
 
 def read(data):
-    """The texts, or what is damaged, in the words of the program."""
+    """The texts, or the damage, in the words of the program."""
     texts, mark, place = [], b"", 0
     gate = 0
     while True:
@@ -124,7 +124,7 @@ def said(number):
 # ---- kills
 
 def torn(data, gate, acknowledged):
-    """What a power cut may leave besides: what was not synced is any bytes."""
+    """What a power cut may leave besides: any bytes in the place of what was not synced."""
     how = RANDOM.randrange(5)
     if how == 0:
         return data
@@ -172,7 +172,7 @@ def kills(folder):
         data = Path(path).read_bytes()
         gates = gates_of(data)
         check("kill %d" % turn, have <= len(gates) <= have + 1, have, len(gates))
-        # a text more than was acknowledged: its gate may not be synced; else what stands behind the gate may not be
+        # a text more than was acknowledged: its gate may not be synced; otherwise what stands after the gate may not be
         data = torn(data, gates[have - 1], len(gates) == have + 1)
         Path(path).write_bytes(data)
         told = show(path)

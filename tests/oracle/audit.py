@@ -1,4 +1,4 @@
-"""The auditor: whether a trace is that of a legal history, replayed event by event."""
+"""The auditor: whether a trace is the trace of a legal history, which is replayed event by event."""
 import json
 import re
 
@@ -15,7 +15,7 @@ DEEPEST = 127
 
 
 class Bad(Exception):
-    """What is wrong with a line: its form, the event that it tells, or the event's effect."""
+    """What is wrong with a line: its form, its event, or the event's effect."""
 
 
 def number_of(text):
@@ -40,7 +40,7 @@ def depth(value):
 
 
 def object_of(line):
-    """The object that a line of JSON is. Of equal keys the last counts; texts with lone surrogates are none."""
+    """The object of a line of JSON. Of equal keys the last counts; a text with a lone surrogate is not accepted."""
     try:
         value = json.loads(line.decode("utf-8"), parse_constant=no_constant, parse_float=finite, parse_int=number_of)
         json.dumps(value, ensure_ascii=False).encode("utf-8")
@@ -52,7 +52,7 @@ def object_of(line):
 
 
 def event_of(line, schema):
-    """What a line says has happened: the event, the update and, for an answer, the choice."""
+    """The event of a line, the update and, for an answer, the choice."""
     told = object_of(line)
     event, number, choice = told.get("event"), told.get("update"), told.get("choice")
     if event not in EVENTS or type(number) is not int or not 1 <= number <= 1000:
@@ -77,7 +77,7 @@ def replay(core, event, number, choice):
 
 
 def check_line(core, line, schema):
-    """Makes the event of a line, whose updates are all admitted first."""
+    """Makes the event of a line. All its updates are admitted first."""
     event, number, choice = event_of(line, schema)
     if (event == "admitted") != (len(core.updates) < len(core.session.updates)):
         raise Bad("event")
@@ -90,7 +90,7 @@ def check_line(core, line, schema):
 
 
 def audit(session, steps, retries, precise, trace):
-    """What is told of a trace, in one line."""
+    """The verdict on a trace, in one line."""
     head = re.match(rb"trace (0|[1-9][0-9]*)\n", trace)
     lines = trace.split(b"\n")[1:-1]
     if not head or not trace.endswith(b"\n") or len(head[1]) > 9 or int(head[1]) != len(lines):
@@ -107,7 +107,7 @@ def audit(session, steps, retries, precise, trace):
 
 
 def session_end(data):
-    """The place behind the first line that has `end` as its only token, or None."""
+    """The place after the first line that has `end` as its only token, or None."""
     place = 0
     while place is not None:
         try:
@@ -128,7 +128,7 @@ def split(data):
 
 
 def audit_rest(session, steps, retries, precise, rest):
-    """The line on what stands behind a session: a result text perhaps, which has to be the session's, then a trace."""
+    """The verdict on the text after a session: perhaps a result text, which must be the session's, then a trace."""
     if (rest + b"\n").startswith(RESULT):
         begins = re.search(rb"^trace ", rest, re.M)
         text, rest = (rest[:begins.start()], rest[begins.start():]) if begins else (rest, b"")

@@ -1,7 +1,8 @@
-"""Lists of calls on a core, as `crates/try_core` takes them: what each answers, and lists that are drawn at random."""
+"""Lists of calls on a core, as `crates/try_core` takes them: the answer of each call, and lists that are drawn at random."""
 from .checks import Schema, choice_of
 from .core import Core, Refusal
 from .printing import choice_text, operation_text, session_text
+from .printing import tuple_text
 from .results import question_lines, result_lines
 from .serial import answered
 from .statements import Line
@@ -9,7 +10,7 @@ from .tokens import line_of
 from .traces import entry_line
 from .values import Update, outer
 
-# How the refusals of each call are told that have a standing.
+# The words for refusals that give a standing, by call.
 STANDS = {"step": "not ready", "deliver": "not pending", "answer": "not paused"}
 
 
@@ -18,21 +19,21 @@ def standing_text(standing):
 
 
 class Caller:
-    """Makes calls on the core of a session, and tells what they answer."""
+    """Makes calls on the core of a session, and gives their answers."""
 
     def __init__(self, session, steps, retries, precise):
         self.session, self.schema = session, Schema(session.relations)
         self.core = Core(session, steps, retries, precise)
 
     def told(self, line):
-        """The lines that a call answers."""
+        """The lines of the answer to a call."""
         if line.startswith(b"#"):
             return [line]
         name, _, rest = line.partition(b" ")
         return getattr(self, "tell_" + name.decode())(rest, line)
 
     def event(self, call, make, *given):
-        """Makes an event, and tells its entry or why there is none."""
+        """Makes an event, and returns its entry or the reason why there is none."""
         try:
             make(*given)
         except Refusal as refusal:
@@ -94,6 +95,9 @@ class Caller:
     def tell_result(self, rest, line):
         return list(result_lines(self.session, self.core.result()))
 
+    def tell_repository(self, rest, line):
+        return [tuple_text(self.session.relations, t) for t in self.core.repository()]
+
 
 def case_text(session, steps, retries, precise, calls):
     """A case as the program reads it."""
@@ -102,10 +106,10 @@ def case_text(session, steps, retries, precise, calls):
 
 
 class Drawn:
-    """A list of calls on the core of a random session, drawn call by call, with what each answers.
+    """A list of calls on the core of a random session, drawn call by call, with the answer of each.
 
-    Mostly the calls are allowed; some are drawn blindly, so that every refusal comes. Often one update runs ahead of the others, in half of
-    the lists a higher one of lower ones, so that much is restarted."""
+    Most calls are allowed; some are drawn blindly, so that every refusal comes. Often one update runs ahead of the others, in
+    half of the lists a higher one ahead of lower ones, so that much is restarted."""
 
     def __init__(self, rng, maker, retries, precise):
         self.rng, self.maker, self.session = rng, maker, maker.session
@@ -121,7 +125,7 @@ class Drawn:
         self.told += self.caller.told(line)
 
     def some_number(self):
-        """The number of an update, or one beside them."""
+        """The number of an update, or a number next to one."""
         return self.rng.choice([*range(1, len(self.core.updates) + 1)] * 4 + [0, len(self.core.updates) + 1])
 
     def some_choice(self, number):
@@ -135,7 +139,7 @@ class Drawn:
         return b"answer u%d " % number + choice_text(self.session.relations, self.some_choice(number))
 
     def admission(self):
-        """One more update; no mapping is added so."""
+        """One more update, which adds no mapping."""
         number = len(self.core.updates) + 1
         operation = ("mapping",)
         while operation[0] == "mapping" or not self.core.can_admit(operation):
@@ -143,7 +147,7 @@ class Drawn:
         return b"update u%d c%d " % (number, self.rng.randrange(3)) + operation_text(self.session, operation)
 
     def allowed(self):
-        """Calls that make an event, each as often as it is to be likely."""
+        """Calls that make an event, each as often as its weight."""
         for u in self.core.updates[self.core.committed:]:
             standing = self.core.standing(u.number)[0]
             if standing == "ready":
@@ -183,6 +187,7 @@ class Drawn:
             for number in range(len(self.core.updates) + 2):
                 self.call(b"standing u%d" % number)
                 self.call(b"question u%d" % number)
+            self.call(b"repository")
             if len(self.core.updates) == len(self.session.updates) and not any(u.withdrawn for u in self.core.updates):
                 self.call(b"result")
         return self

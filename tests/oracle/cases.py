@@ -12,7 +12,7 @@ from .traces import trace_text
 
 ON_SESSIONS = ["run"] * 6 + ["serial", "format", "check", "save", "upgrade"] * 2
 
-# Command lines that are refused, taken or ask for help, the first of no words; a pair of quotes is an empty word.
+# Command lines that are refused, accepted or ask for help; the first has no words. A pair of quotes is an empty word.
 WORDS = [["" if word == "''" else word for word in line.split()] for line in """
 dance|run --workers 0|run --workers 17|run --workers x|run --workers|run --workers=|run --steps 0|run --steps 301
 run --steps -1|run --retries 5|run --retries=-1|run --deps both|run --deps|run --deps=|run --bogus|run -x|run serial
@@ -59,7 +59,7 @@ def of_session(rng, maker, text):
 
 
 def of_trace(rng, maker, text):
-    """A run whose trace is wanted, mostly of updates that meet. On one worker there is one history; on several it is any legal one."""
+    """A run with a trace, mostly of updates that conflict. One worker gives one history, several give any legal one."""
     words = ["run", "--trace", *option(rng, "workers", rng.choice([1, 2, 4, 8])), *option(rng, "retries", rng.randrange(5)),
              *option(rng, "deps", rng.choice(["coarse", "precise"]))]
     if rng.random() < 0.6:
@@ -111,7 +111,7 @@ def of_query(rng, maker, text):
 
 
 def events(rng, maker, core):
-    """The events that are allowed, the likelier ones more often."""
+    """The events that are allowed, more likely ones several times."""
     for u in core.updates[core.committed:]:
         standing = core.standing(u.number)[0]
         if standing == "ready":
@@ -141,7 +141,7 @@ def history(rng, maker, retries, precise):
 
 
 def bend(rng, trace):
-    """A trace with one thing that may be wrong."""
+    """A trace with one change, which may make it wrong."""
     lines = trace.split(b"\n")
     at = rng.randrange(len(lines))
     kind = rng.choice(["byte"] * 3 + ["drop", "add", "swap", "head", "effect", "effect", "cut"])
@@ -192,14 +192,14 @@ def of_journal(rng, maker, text):
 
 
 def odd_commit(rng, body):
-    """The payload of a commit as it need not be."""
+    """The payload of a commit with something unusual in it."""
     respelled = [body.replace(b"(", b"( ", 1), body.replace(b"commit ", b"commit 0"), body.replace(b"+", b" +", 1)]
     ended = [body[:-1], body + b"\n", body + b"+A(1)", body + b"+Nope(1)\n", body + b"+*0\n", b"", b"commit\n"]
     return rng.choice(respelled + ended)
 
 
 def made_journal(rng, maker):
-    """A journal of commits that nobody made, some of them odd."""
+    """A journal of commits that no run made, some of them odd."""
     session, number = maker.session, 0
     data = sized(session_text(beginning(session)))
     for _ in range(rng.choice([1, 2, 3])):

@@ -43,7 +43,7 @@ def check_sides(left, right):
 
 
 def numbered(schema, atoms, names):
-    """The atoms with their relations and variables by number; names that are new are put behind the others."""
+    """The atoms with their relations and variables by number; new names are added after the others."""
     out = []
     for relation, terms in atoms:
         r = schema.relation(relation, len(terms))
@@ -93,7 +93,7 @@ def choice_of(kind, facts):
 
 
 class Reader:
-    """A session as far as it has been read. Each `read_*` takes a line behind its first word."""
+    """A session as far as it has been read. Each `read_*` takes a line after its first word."""
 
     def __init__(self):
         self.session, self.schema = None, Schema()
@@ -207,7 +207,7 @@ def at_line(fault, line):
 
 
 def read_session(data):
-    """The session that the bytes spell; else raises the first fault, with its line."""
+    """The session of the bytes; raises the first fault, with its line, if there is one."""
     try:
         data.decode("utf-8")
     except UnicodeDecodeError as wrong:
@@ -227,7 +227,7 @@ def read_session(data):
 
 
 def read_one(text, form, meaning):
-    """What a text of one line says: None where it has not the form, and False where it goes with no relation."""
+    """The content of a text of one line: None if it does not have the form, False if it fits no relation."""
     tokens = line_of(text)
     if tokens is None:
         return None

@@ -1,4 +1,4 @@
-"""What the program does with its words and its input: a status, a text for the output, a line for the error stream."""
+"""The program as a function of its words and its input: a status, a text for the output, a line for the error stream."""
 from .ask import answers_text, bind_ask, certain, parse_ask
 from .audit import audit_rest, split
 from .checks import Schema, read_fact, read_session
@@ -32,7 +32,7 @@ def do_run(session, said):
 
 
 def of_serial(make):
-    """A command on the serial run: what is made of the session, the run's result and the options. None is too large."""
+    """A command on the serial run. `make` gives the text from the session, the result and the options; None is too large."""
     def do(session, said):
         result = serial(session, said["steps"])
         text = make(session, result, said)
@@ -120,7 +120,7 @@ def on_session(said, data):
 
 
 def youtopia(words, data):
-    """The status, the text for the output, None where it is the library's own help, and the line for the error stream."""
+    """The status, the text for the output (None for the library's own help), and the line for the error stream."""
     try:
         said = read_words(words)
     except Refused:

@@ -1,4 +1,4 @@
-"""Random conversations: a session and lines of commands, most of which do something, some of which are refused."""
+"""Random conversations: a session and lines of commands; most of them do something, some are refused."""
 from .live import Live
 from .printing import choice_text, session_text, tuple_text
 from .sessions import random_session
@@ -42,7 +42,7 @@ def command(rng, maker, live):
 
 
 def opening(rng, maker):
-    """The text of the session; now and then it is spelled otherwise, or is none."""
+    """The text of the session; sometimes in another spelling, and sometimes not a session."""
     text = session_text(maker.session)
     if rng.random() < 0.15:
         text = respell(rng, text)

@@ -6,7 +6,7 @@ from .values import Facts, Update, is_null, outer
 
 
 class Refusal(Exception):
-    """An event that is not allowed, and why: a word, and perhaps the standing."""
+    """An event that is not allowed, with the reason: a word, and perhaps the standing."""
 
 
 class Attempted:
@@ -26,7 +26,7 @@ class Attempted:
         self.begin()
 
     def trail(self):
-        """What others see of its writes."""
+        """The writes that other updates see."""
         return [] if self.withdrawn or self.program.phase == "spent" else self.program.own
 
     def has_ended(self):
@@ -34,7 +34,7 @@ class Attempted:
 
 
 class Core:
-    """The updates of a session whose base meets its mappings, with the settings of a run, and what has happened."""
+    """The updates of a session whose base meets its mappings, with the settings of a run and the history so far."""
 
     def __init__(self, session, steps=100, retries=3, precise=True, admitted=True):
         self.session, self.mappings = session, session.mappings
@@ -83,17 +83,17 @@ class Core:
         return u.number > self.committed and not u.withdrawn
 
     def writes_below(self, number):
-        """What makes the committed repository into what lies below this update."""
+        """The writes that turn the committed repository into what lies below this update."""
         return [w for u in self.updates[self.committed:number - 1] for w in u.trail()]
 
     # ---- reads that have another value now
 
     def value(self, query, own, direction):
-        """The value of a query over `facts`, of the violations that the own writes caused."""
+        """The value of a query over `facts`, among the violations that the own writes caused."""
         return evaluate(query, self.facts, self.mappings, own, direction, all_violations=False)
 
     def can_see(self, query, writes):
-        """Whether the value of the query can change by these writes."""
+        """Whether these writes can change the value of the query."""
         if query[0] == "present":
             return any(t == query[1] for _, t in writes)
         if query[0] == "specific":
@@ -119,7 +119,7 @@ class Core:
         return found
 
     def conflicts(self, number, writes):
-        """The live updates above with a read that these writes of the update changed, as causes, in order."""
+        """The live updates above that have a read changed by these writes of the update, as causes, in order."""
         causes, undo = [], self.facts.apply(self.writes_below(number + 1))
         for u in self.updates[number:]:
             changed = self.first_changed(u, writes) if self.is_live(u) else None
@@ -130,7 +130,7 @@ class Core:
         return causes
 
     def cascade(self, first):
-        """The live updates above that depend on those which go, lowest first, as causes. `first` are the first that go."""
+        """The live updates above that depend on the updates that go, lowest first, as causes. `first` are the first that go."""
         if not first:
             return []
         members, causes, gone = set(first), [], []
@@ -151,11 +151,11 @@ class Core:
         return causes
 
     def wrote_mentioned(self, number, query):
-        """Whether the update's trail is of a relation that the query mentions."""
+        """Whether the update's trail has a write to a relation that the query mentions."""
         return any(mentions(query, self.mappings, t[0]) for _, t in self.update(number).trail())
 
     def dependence(self, u, gone):
-        """The number of the first read of u that depends on writes that are gone: by its value, or by their relations."""
+        """The number of the first read of u that depends on lost writes: by its value or, if coarse, by their relations."""
         if self.precise:
             changed = self.first_changed(u, gone)
             return changed and changed[0]
@@ -163,10 +163,10 @@ class Core:
         return next((number for number, (query, _, _) in enumerate(u.log, 1)
                      if any(mentions(query, self.mappings, r) for r in relations)), None)
 
-    # ---- events; each puts an entry behind the history
+    # ---- events; each adds an entry to the history
 
     def record(self, event, number, **more):
-        """Commits what has ended, from the lowest on, and enters the event."""
+        """Commits what has ended, from the lowest update on, and adds the event to the history."""
         while self.committed < len(self.updates) and self.updates[self.committed].has_ended():
             self.facts.apply(self.updates[self.committed].trail())
             self.committed += 1
@@ -181,13 +181,15 @@ class Core:
         self.record("admitted", len(self.updates))
 
     def can_admit(self, operation):
-        """Whether its nulls are of updates that are there. No mapping is added live."""
+        """Whether the nulls of the operation are of updates that are there. No mapping is added live."""
         values = operation[1:] if operation[0] == "replace" else operation[1][1]
         return all(not is_null(v) or v[1] <= len(self.updates) for v in values)
 
     def admit(self, update):
         if len(self.updates) == 1000:
             raise Refusal("full")
+        if not self.can_admit(update.operation):
+            raise Refusal("unfit")
         self.enter(Update(update.label, update.curator, update.operation))
 
     def step(self, number):
@@ -202,7 +204,7 @@ class Core:
         self.install(u, after, reads, writes)
 
     def install(self, u, after, reads, writes):
-        """Makes a step known: its writes may be in conflict with updates above, or, where it is spent, its trail goes."""
+        """Publishes a step: its writes may conflict with updates above; if the update is spent, its trail goes."""
         causes = []
         if after.phase == "spent":
             causes, writes = self.cascade([u.number]), []
@@ -248,7 +250,7 @@ class Core:
         self.record("withdrawn", number, causes=causes)
 
     def drain(self):
-        """Steps the lowest ready update, else delivers to the lowest that can have an answer, until it is quiet."""
+        """Steps the lowest ready update, or delivers to the lowest that can have an answer, until the session is quiet."""
         while True:
             number = self.lowest_runnable()
             if number is not None:
@@ -259,8 +261,12 @@ class Core:
                 return
             self.deliver(number)
 
+    def repository(self):
+        """The tuples that the committed updates left, in outer form."""
+        return sorted(map(outer, answered(self.facts.list())))
+
     def result(self):
-        """What a quiet history without withdrawals comes to, as the serial machine tells it."""
+        """The result of a quiet history without withdrawals, in the form of the serial machine's result."""
         result = Result()
         for u in self.updates[:self.committed]:
             result.finishes.append((u.number, u.program.phase, u.program.refused, u.program.steps, u.program.nulls))
@@ -272,5 +278,5 @@ class Core:
                 told[0] = outer(told[0])
             lack = {"pending": "missing", "misfit": "misfit"}[self.standing(number)[0]]
             result.stop = (number, (kind, mapping, *told), lack)
-        result.repository = sorted(map(outer, answered(self.facts.list())))
+        result.repository = self.repository()
         return result

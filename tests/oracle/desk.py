@@ -9,7 +9,7 @@ from .traces import entry_line, trace_text
 
 
 class Ticket:
-    """A ticket of an update, with the step that its snapshot tells and the number of entries at that time."""
+    """A ticket of an update, with the step of its snapshot and the number of entries at that time."""
 
     def __init__(self, number, update, stamp, step):
         self.number, self.update, self.stamp, self.step = number, update, stamp, step
@@ -26,8 +26,8 @@ def planned(core, number):
 
 
 def in_question(core, update, reads, since):
-    """The first entry past so many that is in question for a plan of the update: below it a relation that a read mentions was written,
-    or such writes were taken away, or the update was restarted; or None."""
+    """The first entry after `since` that may make a plan of the update stale, or None: below the update a relation that a read
+    mentions was written or lost its writes, or the update was restarted."""
     def is_mentioned(relations):
         return any(mentions(query, core.mappings, r) for query, _, _ in reads for r in relations)
 
@@ -46,7 +46,7 @@ def in_question(core, update, reads, since):
 
 
 class Desk:
-    """The desk of a session, with what its three seats have in hand."""
+    """The desk of a session, and what its three seats hold."""
 
     def __init__(self, session, steps, retries, precise):
         self.session, self.core = session, Core(session, steps, retries, precise)
@@ -56,7 +56,7 @@ class Desk:
         return {ticket.update for ticket in self.hands.values()}
 
     def told(self, line):
-        """What a call answers."""
+        """The answer to a call."""
         call, seat = line.split()
         if self.due(seat) != call and not (call == "back" and seat in self.hands):
             return "unfit"
@@ -102,7 +102,7 @@ class Desk:
 
 
 def case_told(session, steps, retries, precise, calls):
-    """A case as the program reads it, and what it tells."""
+    """A case as the program reads it, and its answer."""
     desk = Desk(session, steps, retries, precise)
     head = b"case %d %d %s\n" % (steps, retries, b"precise" if precise else b"coarse")
     case = head + session_text(session) + "".join(call + "\n" for call in calls).encode() + b"done\n"
@@ -111,7 +111,7 @@ def case_told(session, steps, retries, precise, calls):
 
 
 def drawn(rng, maker, retries, precise):
-    """A random list of calls on the desk of a random session, and what is told of it. Seats work at different speeds."""
+    """A random list of calls on the desk of a random session, and the answers. Seats work at different speeds."""
     desk, calls = Desk(maker.session, maker.steps, retries, precise), []
     seats = rng.choices(["s1", "s2", "s3"], [rng.choice([1, 1, 3, 10]) for _ in range(3)], k=rng.choice([20, 60, 150, 300]))
     for seat in seats:
@@ -123,13 +123,13 @@ def drawn(rng, maker, retries, precise):
 
 
 class Order:
-    """An order of seats, one picked at each of the first calls. A seat that is idle comes again once something was done."""
+    """An order of seats: one is picked at each of the first calls. An idle seat comes again after something was done."""
 
     def __init__(self, seats, calls):
         self.seats, self.calls, self.picks = seats, calls, []
 
     def played(self, desk):
-        """Has the seats of a desk come in this order until nothing is left to do."""
+        """Lets the seats of a desk come in this order until nothing is left to do."""
         place, idle, told = 0, set(), ""
         while told != "quiet":
             there = [f"s{i + 1}" for i in range(self.seats) if f"s{i + 1}" not in idle]
@@ -153,7 +153,7 @@ class Order:
 
 
 def explored(session, steps, retries, precise, seats, calls):
-    """A case that explores, and what is told of it: the number of schedules and of ends, and the ends in order."""
+    """A case that explores, and its answer: the number of schedules and of ends, and the ends in order."""
     order, ends, count, goes_on = Order(seats, calls), set(), 0, True
     while goes_on:
         desk = Desk(session, steps, retries, precise)

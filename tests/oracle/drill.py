@@ -13,13 +13,13 @@ mapping m3: Tour(t, x, y) -> City(x, c), City(y, d)
 end
 """
 
-# Of ten numbers, what each draws: the operation, the relation, and below what each column is drawn.
+# What each of ten numbers draws: the operation, the relation, and the bound of each column.
 DRAWN = ([("insert", 0, (50, 20))] * 4 + [("insert", 2, (200, 50))] * 2 + [("insert", 3, (100, 50, 50))] * 2
          + [("delete", 0, (50, 20)), ("insert", 1, (20, 20))])
 
 
 def drill(count, seed):
-    """So many updates, each with four answers `expand`, drawn by a linear congruential generator."""
+    """This number of updates, each with four answers `expand`, drawn by a linear congruential generator."""
     session, state = read_session(BEGINNING), seed
 
     def draw(below):

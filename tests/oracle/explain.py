@@ -15,7 +15,7 @@ def reason(made, t, writes):
 
 
 def puts_of(session, budget):
-    """What each step of the updates that are done put, in order: ((update, step), {tuple: reason}); and the run's result."""
+    """The tuples that each step of the done updates put, in order, ((update, step), {tuple: reason}); and the run's result."""
     steps = []
 
     def watch(program, writes, facts):
@@ -28,13 +28,13 @@ def puts_of(session, budget):
 
 
 def explain(session, budget, t):
-    """Each explained tuple with its origin, (update, step) or None for the base, and its reason; None where t is not there."""
+    """Each explained tuple with its origin, (update, step) or None for the base, and its reason; None if t is not there."""
     steps, result = puts_of(session, budget)
     if t not in result.repository:
         return None
 
     def origin(x, before):
-        """The place of the last step before that one which put the tuple, or -1."""
+        """The place of the last step before that one that put the tuple, or -1."""
         return max((at for at, (_, put) in enumerate(steps[:before]) if x in put), default=-1)
 
     first = (t, origin(t, len(steps)))

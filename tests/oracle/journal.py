@@ -1,7 +1,7 @@
-"""The journal of commits: its bytes, and what is recovered of them.
+"""The journal of commits: its bytes, and what is recovered from them.
 
-A journal is the session's beginning as a payload, a gate, and for each commit, behind an open gate, a payload and the
-next gate. A payload has its length in four bytes before it. The last gate is shut.
+A journal is the session's beginning as a payload, a gate, and for each commit, after an open gate, a payload and the next gate. A
+payload has its length in four bytes before it. The last gate is shut.
 """
 from .checks import Schema, read_fact, read_session
 from .printing import session_text, tuple_text
@@ -30,7 +30,7 @@ def commit_payload(relations, number, writes):
 
 
 def journal_bytes(session, result):
-    """The journal of a serial run, or None where a payload or the whole has too many bytes."""
+    """The journal of a serial run, or None if a payload or the whole journal has too many bytes."""
     payloads = [session_text(beginning(session))]
     for (number, *_), writes in zip(result.finishes, result.trails):
         payloads.append(commit_payload(session.relations, number, writes))
@@ -43,7 +43,7 @@ class Damaged(Exception):
 
 
 def payload_at(data, place, damage):
-    """A payload and the place behind it."""
+    """A payload and the place after it."""
     size = int.from_bytes(data[place:place + 4], "big")
     if len(data) < place + 4 + size:
         raise Damaged(damage)
@@ -51,7 +51,7 @@ def payload_at(data, place, damage):
 
 
 def writes_in(schema, number, payload):
-    """The writes of the payload of this commit, or None where it is not in its printed form."""
+    """The writes of the payload of this commit, or None if it is not in its printed form."""
     head, *lines = payload[:-1].split(b"\n")
     if not payload.endswith(b"\n") or head != b"commit %d" % number or number > 4294967295:
         return None

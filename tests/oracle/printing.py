@@ -3,7 +3,7 @@ from .values import FORCE, is_null
 
 
 def value_text(value, inner=False):
-    """With `inner` a null has its attempt too, as in traces."""
+    """A value; with `inner` a null has its attempt too, as in traces."""
     if is_null(value):
         return b"?%d.%d@%d" % value[1:] if inner else b"?%d.%d" % value[1:3]
     if value[0] == 0:

@@ -1,4 +1,4 @@
-"""What is told of a run: the result text, a question's lines, the saved session."""
+"""The printed result of a run: the result text, a question's lines, the saved session."""
 from .printing import tuple_text
 from .values import Mapping, Session, is_null
 
@@ -34,7 +34,8 @@ def result_text(session, result):
 
 
 def saved(session, result):
-    """What is left, as a session that begins with it: its mappings are there from the start, its nulls those of a base."""
+    """The final repository as a session that begins with it: its mappings are there from the start, its nulls are nulls of a
+    base."""
     left = Session(2)
     left.relations = session.relations
     done = {number for number, outcome, *_ in result.finishes if outcome == "done"}

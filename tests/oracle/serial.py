@@ -5,8 +5,8 @@ from .values import FORCE, Facts
 
 
 class Result:
-    """How updates ended, (number, outcome, refused null or None, steps, nulls); the stop, (number, question, lack) or None;
-    the repository without the tuples that say which mappings are in force; and the writes of each update that ended."""
+    """How updates ended, (number, outcome, refused null or None, steps, nulls); the stop, (number, question, lack) or None; the
+    repository without the tuples that mark mappings as in force; and the writes of each update that ended."""
 
     def __init__(self):
         self.finishes, self.stop, self.repository, self.trails = [], None, [], []

@@ -1,7 +1,7 @@
 """Random small sessions that the language accepts and whose base meets its mappings.
 
-They are drawn so that much happens: few values, so that joins meet; updates near to what the repository has; and
-answers to the questions that are asked, mostly fitting.
+They are drawn so that much happens: few values, so that joins meet; updates close to what the repository has; and answers to the
+questions, mostly fitting ones.
 """
 from .checks import has_plain_cycle, read_session
 from .drill import BEGINNING
@@ -30,7 +30,7 @@ class Maker:
         return (1, self.rng.choice(TEXTS)) if self.often(0.8) else (0, self.rng.choice([-5, 0, 2 ** 63 - 1, -2 ** 63]))
 
     def null(self, below):
-        """A null of the base or of an update with a lower number, there or not."""
+        """A null of the base or of an update with a lower number, which may be there or not."""
         update = self.rng.randrange(below) if below and self.often(0.7) else 0
         return (2, update, self.rng.choice([1, 1, 1, 2, 3]), 0)
 
@@ -64,7 +64,7 @@ class Maker:
         return Mapping(name, names, len(used), left, right, since)
 
     def add_mapping(self, name, since=0):
-        """Adds a mapping that closes no plain cycle, and answers whether one was found."""
+        """Adds a mapping that closes no plain cycle, and tells whether one was found."""
         for _ in range(6):
             mapping = self.mapping(name, since)
             if not has_plain_cycle(self.session.mappings + [mapping]):
@@ -73,7 +73,7 @@ class Maker:
         return False
 
     def close_base(self):
-        """Repairs the base at random until it meets the mappings; answers whether it did, and stayed small."""
+        """Repairs the base at random until it meets the mappings; tells whether it does, and stayed small."""
         facts = Facts(self.session.base)
         for _ in range(25):
             found = ((m, first_violation(m, facts)) for m in self.session.mappings)
@@ -95,7 +95,7 @@ class Maker:
     # ---- updates and answers
 
     def near(self, here, below):
-        """A tuple near to those that are there: one with a value changed, or an atom of a mapping under values from it."""
+        """A tuple close to the tuples that are there: one with a value changed, or an atom of a mapping under values from one."""
         if here and self.often(0.4):
             relation, values = self.rng.choice(here)
             at = self.rng.randrange(len(values))
@@ -129,7 +129,7 @@ class Maker:
         return "insert", t
 
     def deletion(self, here, below):
-        """Mostly a tuple that is there, and mostly one that several left atoms want."""
+        """Mostly a tuple that is there, and mostly one for whose deletion several left tuples may go."""
         rights = [atom for m in self.session.mappings if len(m.left) > 1 for atom in m.right]
         wanted = [t for t in here if any(bind(atom, t, {}) is not None for atom in rights)]
         pool = wanted if wanted and self.often(0.7) else here
@@ -154,7 +154,7 @@ class Maker:
         return "delete", tuple(map(outer, some))
 
     def add_update(self):
-        """One more update, with answers to its questions as long as patience lasts."""
+        """One more update, with answers to its questions as long as `patience` lasts."""
         result, number = serial(self.session, self.steps), len(self.session.updates) + 1
         update = Update("u%d" % number, "c%d" % self.rng.randrange(3), self.operation(result.repository, number))
         self.session.updates.append(update)
@@ -167,7 +167,7 @@ class Maker:
             update.answers.append(("expand",))
 
     def made(self):
-        """The session, or None where its base could not be made to meet the mappings."""
+        """The session, or None if its base could not be made to meet the mappings."""
         rng, session = self.rng, self.session
         session.relations = [(name, rng.choice([1, 1, 2, 2, 3])) for name in "ABCD"[:rng.choice([2, 3, 3, 4])]]
         for i in range(rng.choice([1, 2, 2, 3, 3, 4])):
@@ -185,7 +185,7 @@ class Maker:
 
 
 def random_session(rng, steps):
-    """The maker of a session, which has it; and can draw more that is near to it."""
+    """The maker of a session, which has the session and can draw more that is close to it."""
     while True:
         maker = Maker(rng, steps)
         if maker.made():

@@ -1,4 +1,4 @@
-"""Other spellings of a session, and texts that are near to one and mostly refused."""
+"""Other spellings of a session, and texts that are close to one and mostly refused."""
 from .tokens import Fault, lex_line
 
 BLANKS = [b"", b"", b" ", b" ", b"  ", b"\t", b" \r "]
@@ -77,7 +77,7 @@ def without_a_token(rng, line):
 
 
 def with_a_line(rng, lines):
-    """Puts a line that is often wrong near to those of its kind, or near to the end."""
+    """Puts a line that is often wrong near to lines of its kind, or near to the end."""
     line = rng.choice(LINES)
     alike = [i for i, other in enumerate(lines) if other.split()[:1] == line.split()[:1]]
     if alike and rng.random() < 0.85:
@@ -115,7 +115,7 @@ def mangled_bytes(rng, text):
 
 
 def mangle(rng, text):
-    """A text near to a session's: one to three bytes or lines are dropped, added, doubled or changed."""
+    """A text close to a session's text: one to three bytes or lines are dropped, added, doubled or changed."""
     for _ in range(rng.choice([1, 1, 1, 2, 3])):
         text = mangled_lines(rng, text) if rng.random() < 0.6 else mangled_bytes(rng, text)
     return text

@@ -15,7 +15,7 @@ class Line:
         return self.kind() == "name" and self.tokens[self.at][3] in words
 
     def take(self, kind, wanted):
-        """What the next token says, where it is of this kind; else what was wanted in its place."""
+        """The content of the next token, if it is of this kind; otherwise the fault that `wanted` was expected."""
         if self.kind() != kind:
             raise Fault("Expected", wanted)
         self.at += 1
@@ -26,7 +26,7 @@ class Line:
             raise Fault("Expected", "end of line")
 
     def listed(self, item, closing, wanted):
-        """Items with commas between them, up to a token of the closing kind, which is left."""
+        """Items with commas between them, up to a token of the closing kind, which is not taken."""
         items = [item()]
         while self.kind() != closing:
             self.take("comma", wanted)
@@ -75,7 +75,7 @@ class Line:
         return name, left, []
 
     def operation(self, with_mapping):
-        """An operation to the end of the line; one may add a mapping only where that is said."""
+        """An operation to the end of the line; it may add a mapping only if the caller allows it."""
         if self.is_word("insert", "delete"):
             return self.take("name", "operation"), self.whole_fact()
         if self.is_word("replace"):

@@ -41,7 +41,7 @@ class Program:
         return self.phase in ("done", "spent", "refused")
 
     def lack(self, answers):
-        """Why it stops at its question: 'missing' or 'misfit'; None where it does not."""
+        """Why it stops at its question: 'missing' or 'misfit'; None if it does not stop."""
         if self.phase != "asked":
             return None
         if self.taken == len(answers):
@@ -49,9 +49,9 @@ class Program:
         return None if fits(self.question, answers[self.taken]) else "misfit"
 
     def step(self, value, answers, mappings, budget):
-        """Makes one step. `value` answers queries over what stands when it begins. Answers its reads and its writes.
+        """Makes one step. `value` answers queries over the repository at its beginning. Returns its reads and its writes.
 
-        A read is (query, answer, how many own writes stood).
+        A read is (query, answer, number of own writes before it).
         """
         reads, count = [], len(self.own)
 
@@ -68,7 +68,7 @@ class Program:
         return reads, writes
 
     def found(self, ask, nulls):
-        """What the named nulls stand for, with the tuples that hold each; None where one is nowhere."""
+        """The values that the named nulls stand for, with the tuples that hold each; None if one of them is nowhere."""
         table, holders = {}, {}
         for null in nulls:
             holders[null] = ask("occurs", null[1], null[2])
@@ -171,9 +171,9 @@ class Program:
 
 
 def whole(facts, number, operation, answers, mappings, budget, watch=None):
-    """Takes an update whole, by attempt 0 and looking at every violation. `facts` keep its writes only where it is done.
+    """Takes an update whole, by attempt 0 and looking at every violation. `facts` keep its writes only if it is done.
 
-    Answers the program as it came to rest. `watch(program, writes, facts)` is told each step before its writes are made.
+    Returns the program as it came to rest. `watch(program, writes, facts)` is called for each step before its writes are made.
     """
     program, undo = Program(operation, number, 0), []
     while not program.ended() and not program.lack(answers):

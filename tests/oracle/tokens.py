@@ -1,7 +1,7 @@
 """The tokens of a line, and the faults of a session."""
 import re
 
-# The kind of each fault: its number, and its words as a form that what it carries fills in.
+# Each kind of fault: its number, and the form of its words, with places for its content.
 FAULTS = {
     "UnknownRelation": (1, "unknown relation %s"),
     "Arity": (2, "relation %s has %d columns, found %d"),
@@ -24,7 +24,7 @@ FAULTS = {
 
 
 class Fault(Exception):
-    """What is wrong with an input, and at which line."""
+    """What is wrong with an input, and in which line."""
 
     def __init__(self, kind, *carries):
         super().__init__(kind, *carries)
@@ -41,7 +41,7 @@ ESCAPES = {b'"': b'"', b"\\": b"\\", b"n": b"\n"}
 
 
 def whole(digits, most, place):
-    """The number that decimal digits spell, at most `most`. Long spellings are refused before they are read."""
+    """The number of decimal digits, if it is at most `most`. Long spellings are refused before they are read."""
     digits = digits.lstrip(b"0") or b"0"
     if len(digits) > 19 or int(digits) > most:
         raise Fault("WideNumber", place)
@@ -49,7 +49,7 @@ def whole(digits, most, place):
 
 
 def text_at(data, start):
-    """The place after a text, and the bytes that it stands for. What comes first from the left counts."""
+    """The place after a text, and the bytes that it stands for. The first fault from the left counts."""
     place, said = start + 1, bytearray()
     while True:
         byte = data[place:place + 1]
@@ -73,7 +73,7 @@ def text_at(data, start):
 
 
 def token_at(data, start):
-    """The longest token at a place that is no blank: its kind, where it begins and ends, and what it says."""
+    """The longest token at a place that is no blank: its kind, its beginning and end, and its content."""
     if found := NAME.match(data, start):
         return "name", start, found.end(), found.group().decode()
     if found := NUMBER.match(data, start):
@@ -98,7 +98,7 @@ def token_at(data, start):
 
 
 def lex_line(data, start):
-    """The tokens of the line that begins there, and where the next one begins, None at the end of the input."""
+    """The tokens of the line that begins there, and the beginning of the next line, None at the end of the input."""
     tokens, place = [], start
     while place < len(data):
         byte = data[place:place + 1]

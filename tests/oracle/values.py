@@ -6,7 +6,7 @@ A write is (True, tuple) for an insertion and (False, tuple) for a deletion.
 """
 from bisect import bisect_left, insort
 
-FORCE = 65535   # the relation of the tuples that say which mappings are in force
+FORCE = 65535   # the relation of the tuples that mark mappings as in force
 
 
 def is_null(value):
@@ -14,7 +14,7 @@ def is_null(value):
 
 
 def outer_value(value):
-    """The value without the attempt that a null has: as people see it."""
+    """The value without the attempt of a null, as people see it."""
     return (2, value[1], value[2], 0) if is_null(value) else value
 
 
@@ -28,7 +28,7 @@ def nulls_of(t):
 
 
 def force(number):
-    """The tuple that says that this mapping is in force."""
+    """The tuple that marks this mapping as in force."""
     return (FORCE, ((0, number),))
 
 
@@ -64,7 +64,7 @@ class Facts:
         return tuple(self.by_null.get((update, place), ()))
 
     def _lists(self, t):
-        """Each list that the tuple belongs to: its table and its key there."""
+        """Each list that the tuple belongs to: the table and the tuple's key in it."""
         r, values = t
         yield self.by_relation, r
         for column, v in enumerate(values):
@@ -73,7 +73,7 @@ class Facts:
             yield self.by_null, name
 
     def insert(self, t):
-        """Whether it was not there."""
+        """Inserts the tuple; returns whether it was not there."""
         if t in self.all:
             return False
         self.all.add(t)
@@ -82,7 +82,7 @@ class Facts:
         return True
 
     def remove(self, t):
-        """Whether it was there."""
+        """Removes the tuple; returns whether it was there."""
         if t not in self.all:
             return False
         self.all.discard(t)
@@ -94,7 +94,7 @@ class Facts:
         return True
 
     def apply(self, writes):
-        """Makes the writes in turn, and answers the writes that undo them."""
+        """Makes the writes in turn, and returns the writes that undo them."""
         undo = []
         for insertion, t in writes:
             if self.insert(t) if insertion else self.remove(t):

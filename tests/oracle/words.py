@@ -8,7 +8,7 @@ COMMANDS = ("run", "serial", "save", "check", "format", "upgrade", "explain", "d
 NUMBERS = {"workers": (1, 16, 4), "steps": (1, 300, 100), "retries": (0, 4, 3), "count": (1, 1000, 60), "seed": (0, 4294967295, 1)}
 TEXTS = {"deps": "precise", "tuple": None, "query": None}
 FLAGS = ("trace",)
-HELP = "help"      # what the words ask for where they ask for help or the version
+HELP = "help"      # the answer to words that ask for help or the version
 
 
 class Refused(Exception):
@@ -22,7 +22,7 @@ def number(text, low, high):
 
 
 class Words:
-    """The words read from the left, up to the first that is refused or asks for help."""
+    """Reads the words from the left, up to the first that is refused or asks for help."""
 
     def __init__(self, words):
         self.words, self.command, self.said, self.plain = list(words), None, {}, False
@@ -53,7 +53,7 @@ class Words:
             raise Refused
 
     def read(self):
-        """Whether they ask for help or the version."""
+        """Whether the words ask for help or the version."""
         while self.words:
             word = self.words.pop(0)
             dashes = 0 if self.plain or word == "-" else len(word) - len(word.lstrip("-"))

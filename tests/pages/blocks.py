@@ -1,11 +1,11 @@
 #!/usr/bin/env python3
-"""Runs the fenced blocks of a page: blocks.py PAGE PROGRAM [plain] [as NAME] tells each that is not as it would be.
+"""Runs the fenced blocks of a page: blocks.py PAGE PROGRAM [plain] [as NAME] prints each block whose output differs.
 
-A block ```session NAME is stored in the file NAME, and one ```session NAME more goes into it before its last line. A
-block ```console has commands, each behind `$ `, and behind each what it writes on both streams. The blocks of a page are
+A block ```session NAME is stored in the file NAME, and a block ```session NAME more goes into that file before its last line. A
+block ```console has commands, each after `$ `, and after each command what it writes on both streams. The blocks of a page are
 run in turn, in one folder, with PROGRAM as `youtopia` or as NAME, the built `youtopia` and `yt`, and the folder `examples` of the
-repository beside them. `yt` takes the time from YT_TIME and the curator from YT_CURATOR, so that it writes the same each time. Any other
-block is told as not run, unless `plain` is said, which lets blocks without a word and shell blocks (```sh) stand as they are.
+repository beside them. `yt` takes the time from YT_TIME and the curator from YT_CURATOR, so that it writes the same each time.
+Any other block is reported as not run; `plain` allows blocks without a word and shell blocks (```sh).
 """
 import os
 import subprocess
@@ -17,7 +17,7 @@ ROOT = Path(__file__).resolve().parent.parent.parent
 
 
 def blocks_of(text):
-    """Each fenced block: the line of its fence, the words behind the fence, its lines."""
+    """Each fenced block: the line of its fence, the words after the fence, its lines."""
     fence, start, words, lines = False, 0, [], []
     for number, line in enumerate(text.splitlines(), 1):
         if line.startswith("```"):
@@ -29,7 +29,7 @@ def blocks_of(text):
 
 
 def commands_of(lines):
-    """Each command of a console block with the lines that it is said to write."""
+    """Each command of a console block, with the lines that the page shows for it."""
     commands = []
     for line in lines:
         if line.startswith("$ "):
@@ -42,7 +42,7 @@ def commands_of(lines):
 
 
 def store(file, lines, more):
-    """Writes the lines, or puts them before the last line that the file has."""
+    """Writes the lines, or puts them before the last line of the file."""
     kept = file.read_text().splitlines() if more else []
     file.write_text("".join(line + "\n" for line in kept[:-1] + lines + kept[-1:]))
 

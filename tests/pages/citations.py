@@ -1,10 +1,10 @@
 #!/usr/bin/env python3
-"""Checks docs/PROOFS.md against the contracts: each item of a section on a crate cites a contract, and each contract that
-is cited is there. With the word `uncited` it tells instead the crates that have no section, and the laws (public functions
-without arguments) that no item cites.
+"""Checks docs/PROOFS.md against the contracts: each item of a section on a crate cites a contract, and each cited contract
+exists. With the word `uncited` it prints instead the crates that have no section, and the laws (public functions without
+arguments) that no item cites.
 
-A citation is `function`, `function: clause, ..`, `Type::function: clause, ..`, or `Type: word, ..` for what a type says
-of itself, of the crate that the section is on; `crate::` in front names another one. `File.name` or `name` may be a definition.
+A citation is `function`, `function: clause, ..`, `Type::function: clause, ..`, or `Type: word, ..` for a ghost word of a type, of
+the crate that the section is on; `crate::` in front names another crate. `File.name` or `name` may be a definition.
 """
 import re
 import sys
@@ -13,7 +13,7 @@ from pathlib import Path
 ROOT = Path(__file__).resolve().parent.parent.parent
 CRATES = sorted(folder.name for folder in (ROOT / "crates").iterdir() if folder.is_dir())
 LISTED = re.findall(r"[a-z][a-z0-9_]*", re.sub(r"#.*", "", (ROOT / "crates.txt").read_text()))
-PLAIN = {"out", "err", "since"}     # words that are said of the program and cite nothing
+PLAIN = {"out", "err", "since"}     # words that are about the program and cite nothing
 
 HEAD = re.compile(r"^(?:pub(?:\([a-z]+\))? |unsafe )*(impl|trait|struct|enum)\b(.*)")
 FUNCTION = re.compile(r"^\s*(?:pub(?:\([a-z]+\))? |const |unsafe )*fn (\w+)")
@@ -22,7 +22,7 @@ MEMBER = re.compile(r"^\s+ghost (\w+)\s*[:=]")
 
 
 def owner_of(kind, rest):
-    """The type that an impl is for, or the name of a trait, struct or enum; nothing for a type without a name."""
+    """The type of an impl, or the name of a trait, struct or enum; nothing for a type without a name."""
     if kind == "impl":
         shorter = None
         while shorter != rest:
@@ -60,7 +60,7 @@ def defines(crate, files, name):
 
 
 def is_there(crate, cited):
-    """Whether the crate has what is cited: a definition, a type's words, or a function with these clauses."""
+    """Whether the crate has the cited definition, words of a type, or function with these clauses."""
     name, _, listed = cited.partition(": ")
     wanted = set(filter(None, listed.split(", ")))
     if "." in name:
@@ -86,7 +86,7 @@ def items_of(lines):
 
 
 def sections_of(page):
-    """Each section: the crate that its heading names, if it does, and its numbered lines."""
+    """Each section: the crate that its heading names, if any, and its numbered lines."""
     section = (None, [])
     for number, line in enumerate(page.read_text().splitlines(), 1):
         if line.startswith("#"):
@@ -117,7 +117,7 @@ def offences(page):
 
 
 def uncited(page):
-    """The crates and the laws that the page names nowhere."""
+    """The crates and the laws that the page does not name."""
     text = page.read_text()
     for crate in CRATES:
         if not re.search(rf"^#+ `{crate}`$", text, re.M):

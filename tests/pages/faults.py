@@ -1,7 +1,7 @@
 #!/usr/bin/env python3
-"""faults.py PROGRAM: tells each example in the tables of faults of docs/FORMATS.md that the program tells otherwise.
+"""faults.py PROGRAM: prints each example in the tables of faults of docs/FORMATS.md for which the program gives another fault.
 
-An example is line 3 of a small session, and is told with line 3. The rows that say otherwise are spelled out here.
+An example is line 3 of a small session, and its fault is at line 3. The rows that say otherwise are spelled out here.
 """
 import re
 import subprocess
@@ -10,7 +10,7 @@ from pathlib import Path
 
 ROOT = Path(__file__).resolve().parent.parent.parent
 
-# The input and the line of the rows whose example is not line 3 as it stands.
+# The input and the line of each row whose example is not line 3 as it stands.
 OTHERWISE = {
     "13": ('youtopia 1\nrelation A 1\nbase A("' + "x" * 257 + '")\nend\n', 3),
     "20": ("youtopia 3\nrelation A 1\nend\n", 1),
@@ -26,7 +26,7 @@ def rows_of(text, head):
 
 
 def examples(text):
-    """What each row shows: an input, and what is told of it."""
+    """What each row shows: an input and its fault."""
     for number, _, example, told in rows_of(text, "N | WORDS | Example | Its words"):
         data, line = OTHERWISE.get(number, (f"youtopia 1\nrelation A 1\n{example.strip('`')}\nend\n", 3))
         yield data, f"session line {line}: fault {number}: {told.split('`')[1]}"

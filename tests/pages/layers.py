@@ -2,9 +2,9 @@
 """Checks the layers of the crates. crates.txt lists them from the lowest: each line `# LAYER: what it has` begins one.
 
 - The name of a crate begins with its layer, except in the layer `programs`.
-- A crate uses crates of its own layer and of lower ones alone, and is listed after all that it uses.
+- A crate uses only crates of its own layer and of lower layers, and is listed after all that it uses.
 - The headings of docs/ARCHITECTURE.md (`### `LAYER`: ..`) and of docs/GLOSSARY.md (`## `LAYER`: ..`) name the same layers with
-  the same words, and the tables below them the same crates, all in the same order.
+  the same words. The tables below them name the same crates, all in the same order.
 """
 import re
 import sys
@@ -26,7 +26,7 @@ def listed():
 
 
 def of_page(page, column):
-    """Each layer that the page has a heading for: its name, what it has, and the crates of its table, each once."""
+    """Each layer that the page has a heading for: its name, its words, and the crates of its table, each once."""
     layers = []
     for line in (ROOT / page).read_text().splitlines():
         if head := re.fullmatch(r"#+ `([a-z]+)`: (.+)", line):
@@ -40,7 +40,7 @@ def of_page(page, column):
 
 
 def misplaced(layers):
-    """What breaks the order of the layers."""
+    """The breaches of the order of the layers."""
     place = {name: at for at, (_, _, crates) in enumerate(layers) for name, _ in crates}
     seen = set()
     for at, (layer, _, crates) in enumerate(layers):
@@ -56,7 +56,7 @@ def misplaced(layers):
 
 
 def differing(layers, page, column):
-    """What the page has otherwise than crates.txt."""
+    """The differences between the page and crates.txt."""
     wanted = {layer: (text, [name for name, _ in crates]) for layer, text, crates in layers}
     found = of_page(page, column)
     if [layer for layer, _, _ in found] != list(wanted):

@@ -1,7 +1,6 @@
 #!/usr/bin/env python3
-"""Tells each link of the pages that leads nowhere, to no file or to no heading of a page, and each file that they name and
-that is not there.
-"""
+"""Prints each link of the pages that leads nowhere, to no file or to no heading of a page, and each file that the pages name and
+that does not exist."""
 import re
 import sys
 from pathlib import Path
@@ -17,7 +16,7 @@ def without_blocks(text):
 
 
 def anchors_of(page):
-    """The names under which its headings can be reached, as they are made on the usual sites."""
+    """The anchors of a page's headings, as they are made on the usual sites."""
     headings = re.findall(r"^#+ (.*)$", without_blocks(page.read_text()), re.M)
     return {re.sub(r"[^\w\- ]", "", heading).strip().lower().replace(" ", "-") for heading in headings}
 

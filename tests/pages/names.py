@@ -1,9 +1,9 @@
 #!/usr/bin/env python3
-"""Tells each name of the crates that the pages quote and that is not there.
+"""Prints each name of the crates that the pages quote and that does not exist.
 
-Of docs/GLOSSARY.md: each name in the column Definitions that no definition has, and in the column Code that no code has. Of
-the pages on how things work: each name with an underscore that neither has, nor the list of crates. Of crates.txt: each
-crate of the kit that docs/PROOFS.md does not say is trusted.
+In docs/GLOSSARY.md: each name in the column Definitions that no definition has, and in the column Code that no code has. In the
+pages on how things work: each name with an underscore that neither the definitions, the code nor the list of crates has. In
+crates.txt: each crate of the kit that docs/PROOFS.md does not list as trusted.
 """
 import re
 import sys
@@ -13,7 +13,7 @@ ROOT = Path(__file__).resolve().parent.parent.parent
 COLUMNS = {"Definitions": "specs/*.antt", "Code": "src/**/*.rt"}
 PAGES = ("README.md", "CONTRIBUTING.md", "docs/RULES.md", "docs/ARCHITECTURE.md", "docs/CONCURRENCY.md", "docs/CALLING.md",
          "crates/*/README.md")
-NOT_OURS = {"serde_json"}   # names that pages speak of without using them
+NOT_OURS = {"serde_json"}   # names that pages mention without using them
 
 
 def words_in(pattern):
@@ -25,7 +25,7 @@ def words_in(pattern):
 
 
 def listed():
-    """The crates of the list, and those of the kit that they use."""
+    """The crates of the list, and the crates of the kit that they use."""
     lines = re.sub(r"#.*", "", (ROOT / "crates.txt").read_text()).split("\n")
     crates = {re.split(r"[ :]", line)[0] for line in lines if ":" in line}
     return crates, {name for line in lines if ":" in line for name in line.split(":")[1].split()} - crates

@@ -1,7 +1,7 @@
 #!/usr/bin/env python3
-"""Tells each block of a page that shows code which does not stand in its file: `shown.py PAGE`.
+"""Prints each block of a page that shows code which is not in its file: `shown.py PAGE`.
 
-A block ```rust FILE has lines that stand in FILE one after the other, as they are.
+A block ```rust FILE has lines that stand in FILE, unchanged and one after the other.
 """
 import re
 import sys

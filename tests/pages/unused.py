@@ -1,9 +1,9 @@
 #!/usr/bin/env python3
-"""Lists what nothing uses, by names: lemmas and definitions that no contract, no answer and no used lemma names, and public
-functions that no code calls but the tests of their own crate.
+"""Lists what nothing uses, by names: lemmas and definitions that no contract, answer or used lemma names, and public functions
+that no code calls, apart from the tests of their own crate.
 
-It reads names and not meanings, so it lists too little: a method counts as called by each `.name` and `Type::name` of the code,
-whatever the type. A function without parameters is a law, which is there to be read. KEPT says of each exception why it stays.
+It compares names, not meanings, so it lists too little: any `.name` or `Type::name` in the code counts as a call of a method,
+whatever the type. A function without parameters is a law, which is there to be read. KEPT has the reason for each exception.
 """
 import re
 import sys
@@ -12,7 +12,7 @@ from pathlib import Path
 ROOT = Path(__file__).resolve().parent.parent.parent
 CRATES = ROOT / "crates"
 
-# What nothing uses and what stays, with the reason.
+# Unused items that stay, with the reason.
 KEPT = {
     "chase_match.extends": "whether a match extends a binding: a promise of its own",
     "chase_match.first_match": "the first match of a pattern: a promise of its own",
@@ -27,7 +27,7 @@ KEPT = {
     "set_versions.wrote": "whether an update has written, as the versions tell it",
 }
 
-# Crates that grow: what they offer may stand before its first caller.
+# Crates that grow: their public items may be there before the first caller.
 GROWING = re.compile(r"(ws_\w+|def_workspace)\.")
 
 GOALS = {"Answers.antt", "Invariants.antt", "Proof.antt"}
@@ -44,7 +44,7 @@ VARIANT = re.compile(r" +([^\s:(){}]+) :")
 
 
 class Module:
-    """A file of definitions or lemmas: its items by name, each with its lines, and what it names beside them."""
+    """A file of definitions or lemmas: its items by name, each with its lines, and the names in the rest of the file."""
 
     def __init__(self, file):
         parts = file.relative_to(CRATES).parts
@@ -94,7 +94,7 @@ class Module:
 
 
 def imports_of(text):
-    """The names that a file brings in, each with its module, and the modules that it brings in whole."""
+    """The names that a file imports, each with its module, and the modules that it imports whole."""
     imports, whole = {}, {}
     for crate, path, names, alias in USE.findall(text):
         if names:
@@ -111,7 +111,7 @@ def is_stored(file):
 
 
 def is_goal(file):
-    """Whether the file answers the goals of a function."""
+    """Whether the file answers goals of a function."""
     return file.name in GOALS and file.relative_to(CRATES).parts[1] == "proofs"
 
 
@@ -121,7 +121,7 @@ def modules():
 
 
 def known(stored, crate, path, name):
-    """The item that is meant by a name of a module, a variant standing for its type; None for what is no item."""
+    """The item that a name of a module means, with the type for a variant; None if the name is no item."""
     module = stored.get((crate, path))
     if module is None and (crate, path.rpartition(".")[0]) in stored:
         module = stored[crate, path.rpartition(".")[0]]
@@ -145,7 +145,7 @@ def named_in(stored, text, imports, whole, own=None):
 
 
 def roots(stored):
-    """What answers, invariants and the code name, and what stands in a module beside its items."""
+    """The names in answers, invariants and code, and in the rest of each module."""
     for module in stored.values():
         yield from named_in(stored, "\n".join(module.outside), module.imports, module.whole, module)
         yield from ((module.crate, module.path, name) for name in module.items if "◌" in name)
@@ -201,7 +201,7 @@ class Source:
 
 
 def uncalled():
-    """The public functions that no code calls but the tests of their crate, as crate and name."""
+    """The public functions that no code calls, apart from the tests of their crate, as crate and name."""
     sources = [Source(file) for file in CRATES.rglob("*.rt") if is_stored(file)]
     for crate in sorted({source.crate for source in sources}):
         for name, method in sorted({function for source in sources if source.crate == crate for function in source.functions()}):
@@ -210,7 +210,8 @@ def uncalled():
 
 
 def may_call(source, crate, name, method):
-    """Whether a call by this name can be meant: in the crate itself, its tests aside, or where the crate's name is brought in."""
+    """Whether a call by this name can be meant: in the crate itself without its tests, or in a file that imports the crate's
+    name."""
     if source.crate == crate:
         return not source.is_test
     return method or name in source.uses and name not in source.own or f"{crate}::{name}" in source.code

@@ -1,4 +1,4 @@
-# The auditor on what the program itself writes: a session, the output of `run --trace` on it, and a mutation of that.
+# The auditor on the program's own output: a session, the output of `run --trace` on it, and a mutation of that output.
 
 # The verdict on the trace of a run of this session with these options.
 verdict() {

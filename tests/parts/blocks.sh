@@ -1,4 +1,4 @@
-# The pages, run: each block of a page that shows the program writes what the page shows. Needs the built program.
+# The pages, run: each block that shows the program must write what the page shows. Needs the built program.
 check 'each block of the guide is run, and writes what it shows' "$(tests/pages/blocks.py docs/GUIDE.md "$program" 2>&1)"
 check 'the session of the README is run, and writes what it shows' "$(tests/pages/blocks.py README.md "$program" plain 2>&1)"
 check 'the blocks of FORMATS are run, and write what they show' "$(tests/pages/blocks.py docs/FORMATS.md "$program" plain 2>&1)"

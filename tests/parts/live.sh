@@ -8,7 +8,7 @@ for row in tests/live/*/; do
        for stream in out err; do cmp "$stored/$stream" "$row/$stream" 2>&1; done)"
 done
 
-# The same, where each read and each write moves one byte.
+# Some of these conversations again, with reads and writes that move one byte each.
 cc -O2 -shared -fPIC -o "$stored/pieces.so" tests/pieces.c
 for row in tests/live/live-a tests/live/live-b-empty tests/live/live-b-one-insert tests/live/last-line-open; do
   LD_PRELOAD="$stored/pieces.so" "$live" < "$row/lines" > "$stored/out" 2> "$stored/err"

@@ -1,4 +1,4 @@
-# The pages: their sizes and their English, and that everything that they name is there. Needs no built program.
+# The pages: their sizes and their English, and whether everything that they name exists. Needs no built program.
 check 'README has at most 120 lines' "$(wc -l < README.md | awk '$1 > 120')"
 check 'RESULTS has at most 150 lines' "$(wc -l < bench/RESULTS.md | awk '$1 > 150')"
 check 'each crate stands on its own layer and lower ones, and the three lists of layers are one' "$(tests/pages/layers.py 2>&1)"

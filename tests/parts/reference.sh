@@ -1,4 +1,4 @@
-# The reference in Python: it tells of each stored row what is stored, and of random cases what the program tells.
+# The reference in Python: it must give the stored answer for each stored row, and the program's answer for random cases.
 check 'the reference tells what the stored rows have' "$(tests/reference tests/rows/* 2>&1)"
 check 'the program tells of 200 random cases what the reference tells' \
   "$(tests/differential 1 200 "$program" > "$stored/differences" 2>&1 || cat "$stored/differences")"

@@ -1,12 +1,12 @@
-# The built program over streams and words that are no good, and inputs at the limits.
+# The built program on faulty streams and words, and on inputs at the limits.
 
-# What the last run, with this status and its error stream stored, told otherwise than STATUS LINE.
+# How the last run, with this status and its error stream stored, differs from STATUS LINE.
 differs() {
   [ "$status" = "$1" ] || echo "status $status"
   printf '%s\n' "$2" | cmp - "$stored/err" 2>&1
 }
 
-# Streams and words that are no good: a status and one line each.
+# Faulty streams and words: a status and one line each.
 "$program" run < examples/first.session > /dev/full 2> "$stored/err"; status=$?
 check 'an output that is full' "$(differs 6 'youtopia: write fault')"
 "$program" run < examples/first.session >&- 2> "$stored/err"; status=$?

@@ -1,5 +1,5 @@
-# The page for curators: what its files may not have, and its stories in a real browser. Without Chromium, websocketd or yt these
-# are skipped, which is said.
+# The page for curators: what its files may not have, and its stories in a real browser. Without Chromium, websocketd or yt the
+# stories are skipped, with a message.
 page=share/web/page
 check 'each module of the page opens with a sentence on its job' \
   "$(for file in $page/*.js $page/views/*.js; do head -n 1 "$file" | grep -q '^// ' || echo "$file"; done)"

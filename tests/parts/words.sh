@@ -1,4 +1,4 @@
-# The words of the command line: one table makes the man page and the completions, and says what the program's help says.
+# The words of the command line: one table makes the man page and the completions, and agrees with the program's help.
 check 'the man page and the completions are those of the table' "$(share/write check 2>&1)"
 check 'the help lists the commands, options and statuses of the table' "$(share/write help "$program" 2>&1)"
 
@@ -8,7 +8,7 @@ check 'README and FORMATS name each command, and FORMATS each option' \
      done
      grep -P '^option\t' share/words.tsv | cut -f 2 | while read -r name; do grep -q -- "--$name" docs/FORMATS.md || echo "docs/FORMATS.md: --$name"; done)"
 
-# What the completion of bash offers for the last of these words.
+# The words that the completion of bash offers for the last of these words.
 offered() {
   COMP_WORDS=(youtopia "$@") COMP_CWORD=$# COMPREPLY=()
   _youtopia
@@ -18,7 +18,7 @@ offered() {
 check 'the completion of bash offers what fits' \
   "$(diff <(offered se; offered run --deps ''; offered run --steps ''; offered run --ver) <(printf '%s\n' serial 'coarse precise' '' --version) 2>&1)"
 
-# What the completion of bash offers for the last of these words of yt.
+# The words that the completion of bash offers for the last of these words of yt.
 offered_to_yt() {
   COMP_WORDS=(yt "$@") COMP_CWORD=$# COMPREPLY=()
   _yt

@@ -1,4 +1,4 @@
-"""Chromium, driven by its own protocol over a pipe: pages with a storage of their own, real clicks and keys, what the console says."""
+"""Chromium, driven by its own protocol over a pipe: pages with a storage of their own, real clicks and keys, and the console."""
 import base64
 import json
 import os
@@ -8,13 +8,13 @@ import tempfile
 import threading
 import time
 
-PATIENCE = float(os.environ.get("PATIENCE", 60))      # seconds that a page has for what is expected of it
+PATIENCE = float(os.environ.get("PATIENCE", 60))      # seconds that a page has to do what is expected
 NAMES = ("chromium", "chromium-browser", "google-chrome", "google-chrome-stable")
 KEYS = {"Enter": (13, "\r"), "Tab": (9, ""), "Escape": (27, ""), "ArrowDown": (40, ""), "ArrowUp": (38, ""), " ": (32, " ")}
 
 
 def program():
-    """Where Chromium is, or None."""
+    """The path of Chromium, or None."""
     return next((p for p in map(shutil.which, NAMES) if p), None)
 
 
@@ -58,7 +58,7 @@ class Chromium:
             self.changed.notify_all()
 
     def send(self, method, session=None, seconds=2 * PATIENCE, **params):
-        """Sends one command of the protocol, and answers its result."""
+        """Sends one command of the protocol, and returns its result."""
         with self.changed:
             self.number += 1
             number = self.number
@@ -86,7 +86,7 @@ class Chromium:
 
 
 class Page:
-    """One page in a profile of its own. `said` has what its console said."""
+    """One page in a profile of its own. `said` has the output of its console."""
 
     def __init__(self, chromium, name, url, width, height):
         self.chromium, self.name, self.said = chromium, name, []
@@ -122,7 +122,7 @@ class Page:
         self.send("Emulation.setEmulatedMedia", features=[{"name": "prefers-color-scheme", "value": light_or_dark}])
 
     def js(self, expression):
-        """The value of an expression in the page; a promise is waited for."""
+        """The value of an expression in the page. If it is a promise, its result is awaited."""
         result = self.send("Runtime.evaluate", expression=expression, returnByValue=True, awaitPromise=True)
         if "exceptionDetails" in result:
             details = result["exceptionDetails"]
@@ -132,7 +132,7 @@ class Page:
     # ---- what a person does ----
 
     def find(self, css, words=None, seconds=PATIENCE):
-        """The middle of the first visible element of this selector that has these words in it, and can be used; waits for it."""
+        """Waits for the first visible and usable element of this selector that contains these words; returns its middle."""
         expression = """(() => { const e = [...document.querySelectorAll(%s)].find(e => e.checkVisibility() && !e.disabled && !e.closest('fieldset:disabled, [inert]') &&
             (e.innerText + ' ' + (e.getAttribute('aria-label') ?? '')).includes(%s));
             if (!e) return null;
@@ -149,7 +149,7 @@ class Page:
         raise AssertionError("%s: there is no %s %s; the page says: %s" % (self.name, css, words or "", self.text("body")[:1500]))
 
     def click(self, css, words=None):
-        """Clicks on what `find` finds. A page that changed in between has put something else there: then it is looked for again."""
+        """Clicks on what `find` finds. If the page put something else there meanwhile, it is looked for again."""
         end = time.time() + PATIENCE
         while time.time() < end:
             x, y = self.find(css, words)
@@ -173,7 +173,7 @@ class Page:
                 self.send("Input.insertText", text=key)
 
     def type(self, css, text):
-        """Puts a text into a field, instead of what it has. If the page put another field in its place meanwhile, it is typed again."""
+        """Puts a text into a field, in place of its content. If the page replaced the field meanwhile, it is typed again."""
         end = time.time() + PATIENCE
         while time.time() < end:
             self.click(css)
@@ -199,7 +199,7 @@ class Page:
         self.send("DOM.setFileInputFiles", nodeId=node, files=[path])
 
     def downloads(self, folder):
-        """Says where files go that this page saves."""
+        """Sets the folder for files that this page saves."""
         self.chromium.send("Browser.setDownloadBehavior", behavior="allow", downloadPath=folder, browserContextId=self.context)
 
     def go(self, part):
@@ -221,12 +221,12 @@ class Page:
         raise AssertionError("%s: %s; the page says: %s" % (self.name, what, self.text("body")[:1500]))
 
     def sees(self, css, *words):
-        """Waits until an element of this selector has these words in it, or some of these words."""
+        """Waits until an element of this selector contains these words, or one of these words."""
         return self.until("%s says %s" % (css, " or ".join(words)), "[...document.querySelectorAll(%s)].some(e => %s.some(w => (e.innerText ?? e.textContent).replace(/\\s+/g, ' ').includes(w)))" % (
             json.dumps(css), json.dumps(words)))
 
     def picture(self, path):
-        """Writes what is seen as a PNG."""
+        """Saves a picture of the page as a PNG."""
         time.sleep(0.3)
         data = self.send("Page.captureScreenshot", format="png")["data"]
         with open(path, "wb") as file:

@@ -1,4 +1,4 @@
-"""A workspace in a folder of its own, the program under test, and websocketd with the page in front of it."""
+"""A workspace in a folder of its own, the program under test, and websocketd, which serves the page for it."""
 import os
 import shutil
 import signal
@@ -27,7 +27,7 @@ mapping shown: Painting(t, p) -> Hangs(t, r)
 
 
 class Server:
-    """A workspace that the page is served for. `start` may be called again after `stop`, on the same port."""
+    """A workspace with its page. `start` may be called again after `stop`, on the same port."""
 
     def __init__(self, script=MUSEUM, words=()):
         self.folder = tempfile.mkdtemp()
@@ -65,12 +65,12 @@ class Server:
         shutil.rmtree(self.folder, ignore_errors=True)
 
     def yt(self, line, data=None, curator="carol"):
-        """Runs one command of another curator, or with None the lines of `data`."""
+        """Runs one command of another curator, or the lines of `data` if the command is None."""
         words = [YT, "--as", curator, self.file] + ([line] if line else [])
         return subprocess.run(words, input=data, capture_output=True, text=True)
 
     def says(self, line, curator="carol"):
-        """The output of one command, which has to go well or wait."""
+        """The output of one command, which must succeed or wait."""
         done = self.yt(line, curator=curator)
         assert done.returncode in (0, 1, 4), "%s: %s%s" % (line, done.stdout, done.stderr)
         return done.stdout

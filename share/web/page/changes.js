@@ -12,7 +12,7 @@ const CHANGED = 'The workspace changed while you looked. This is what it would d
 
 const dialog = document.getElementById('dialog');
 let refresh = async () => {};
-/** Sets what brings the page up to date, which is done after each change. */
+/** Sets the function that brings the page up to date. It is called after each change. */
 export const afterChanges = f => { refresh = f; };
 export const bringUpToDate = () => refresh();
 
@@ -33,7 +33,7 @@ function goingAlong({line, went}) {
   return went.filter(x => !named.has(printed(x.tuple)));
 }
 
-// `try` takes --cascade, so that it shows what would go along. The command itself gets it after that was confirmed.
+// `try` takes --cascade, so that it shows the rows that would go too. The command itself gets it only after a confirmation.
 const trial = (line, rows) => askOne(`try ${line}${mayTakeAlong(line) ? ' --cascade' : ''}`, rows);
 
 /** What two plans have in common if they do the same. */
@@ -44,7 +44,7 @@ function effectOf({did, came, went, filled, again, question}) {
 /** Whether a command with `--still` was refused because something was recorded since. */
 export const newer = error => error.reply?.status === 3 && /^the log is at [0-9]+$/.test(error.reply.words);
 
-/** Whether a plan does more than what was said: then it is shown before it is done. */
+/** Whether a plan does more than the command says: then it is shown before it is done. */
 function surprises(plan) {
   const own = /^replace [A-Za-z]/.test(plan.line) ? 1 : 0;
   return plan.status !== 0 || Boolean(plan.notes || plan.again) || plan.went.length > own || plan.came.some(x => x.by);
@@ -54,7 +54,7 @@ function surprises(plan) {
  * Shows what a command would do, and does it when that is confirmed.
  * - `title`, `before`, `verb`: of the dialog: its heading, what it says first, and the words on its button.
  * - `rows`: the lines that belong to `load --lines`.
- * - `quick`: it is done at once if it does no more than was said.
+ * - `quick`: it is done at once if it does no more than the command says.
  * - `done`: called with the reply.
  */
 export async function propose(line, options) {
@@ -90,7 +90,7 @@ function showPlan(line, plan, options) {
 const alongWords = n => n === 1 ? '1 row goes along that you did not name.' :
   `${n.toLocaleString('en')} rows go along that you did not name.`;
 
-/** Does what a button of the dialog is for, once. */
+/** Runs the action of a button of the dialog, once. */
 async function confirm(go, work) {
   go.disabled = true;
   try {
@@ -121,7 +121,7 @@ async function carryOut(line, plan, options) {
   throw new Error('the workspace changes all the time; try again');
 }
 
-/** Does a command without showing its effect: for an answer, which `--at` keeps from meeting another question. */
+/** Does a command without showing its effect: for an answer, where `--at` makes sure that the question is the same. */
 export async function doNow(line, at, options = {}) {
   try {
     return await finish(line, await askOne(line), options);
@@ -166,7 +166,7 @@ function lost(plan) {
   closeDialog();
 }
 
-/** Tells of each command whose reply did not come whether it was recorded. */
+/** Shows for each command whose reply did not come whether it was recorded. */
 export async function tellPending() {
   for (const {line, at, limit, is} of pending.splice(0)) {
     const recorded = (await myRecords(at, limit)).some(is);

@@ -2,7 +2,7 @@
 
 const SEPARATORS = [',', ';', '\t'];
 
-/** The text of a file, and how it was read: UTF-8, or Windows-1252 if it is no UTF-8. */
+/** The text of a file, and how it was read: UTF-8, or Windows-1252 if it is not UTF-8. */
 export function textOf(bytes) {
   try {
     return {text: new TextDecoder('utf-8', {fatal: true}).decode(bytes), encoding: 'UTF-8'};
@@ -34,14 +34,14 @@ export function readCsv(text, separator, most) {
   return rows;
 }
 
-/** The separator that stands most often in the first line. */
+/** The separator that is most frequent in the first line. */
 export function separatorOf(text) {
   const line = text.split('\n', 1)[0].replace(/"[^"]*"/g, '');
   const count = s => line.split(s).length;
   return SEPARATORS.reduce((best, s) => count(s) > count(best) ? s : best);
 }
 
-/** How many lines `load --lines` has to take, and the text without the line feed at its end. */
+/** The number of lines for `load --lines`, and the text without the line feed at its end. */
 export function linesOf(text) {
   const rows = text.replace(/\n$/, '');
   return {rows, count: rows.split('\n').length};

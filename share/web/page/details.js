@@ -135,7 +135,7 @@ function placeOf(text, name) {
   return [table, values.findIndex(v => v?.unknown === name)];
 }
 
-// `?6.1 is p of hung in 6 by carol, since Hangs(..)`, by its tokens. What is said otherwise stays as it is.
+// `?6.1 is p of hung in 6 by carol, since Hangs(..)`, by its tokens. Other texts stay as they are.
 function originInWords(words) {
   const [, , ...rest] = tokens(words);
   const names = rest.map(t => t.name ?? '');

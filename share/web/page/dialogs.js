@@ -1,9 +1,9 @@
-// The dialog, the messages at the edge of the page, and how faults are told.
+// The dialog, the messages at the edge of the page, and how faults are shown.
 import {button, fill, focusOn, make, showText} from './elements.js';
 
 const dialog = document.getElementById('dialog');
 const messages = document.getElementById('messages');
-let opener;      // the key of what had the focus before the dialog
+let opener;      // the key of the element that had the focus before the dialog
 let whenClosed;
 
 /** Shows a dialog, or puts another content into the one that is open. `closed` is called when it closes. */
@@ -38,7 +38,7 @@ export function showFault(error, place) {
   place.append(faultBox(error.reply ?? {words: 'The page has a fault: ' + error.message}));
 }
 
-/** Does what a button is for. If it is refused, the fault is shown: in the dialog if one is open, else in this place. */
+/** Runs the action of a button. If it is refused, the fault is shown: in the dialog if one is open, else in this place. */
 export async function attempt(work, place = document.getElementById('main')) {
   try {
     await work();
@@ -60,7 +60,7 @@ export function message(kind, words, action) {
   setTimeout(end, action ? 20000 : 8000);
 }
 
-/** The line across the page that says that something is wrong with all of it; none without words. */
+/** Shows a line across the page that says what is wrong with all of it; without words there is no line. */
 export function banner(...words) {
   const place = document.getElementById('banner');
   place.hidden = !words.length;

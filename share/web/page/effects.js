@@ -1,4 +1,4 @@
-// What a change does, as lines: the rows that go and come, the unknowns that are filled in, and what else is told.
+// What a change does, as lines: the rows that go and come, the unknowns that are filled in, and further notes.
 import {attempt, closeDialog} from './dialogs.js';
 import {button, make, plural, showRow, showText, showValue, soft} from './elements.js';
 import {showLine} from './lines.js';
@@ -69,7 +69,7 @@ export function questionInWords(question) {
 
 // ---- notes ----
 
-/** The notes of a reply, without the one on what goes along: that is shown with the rows. */
+/** The notes of a reply, without the note on rows that go too: that one is shown with the rows. */
 export function notesOf(reply) {
   return (reply.notes ?? []).filter(n => !/^[0-9]+ tuples? went that you did not name$/.test(n.words));
 }

@@ -1,9 +1,9 @@
-// Elements of the page, and how values and rows look in it. Text goes into text nodes alone, never through a parser of
+// Elements of the page, and how values and rows look in it. Text goes only into text nodes, never through a parser of
 // HTML.
 import {isUnknown, looksLikeNumber, readRow, valueText} from './values.js';
 
 const HIDDEN = /[\u0000-\u001f\u007f-\u009f\u00ad\u061c\u200b-\u200f\u2028-\u202e\u2060-\u2069\ufeff]/u;
-// What is set as a property of an element; everything else is an attribute.
+// The names that are set as properties of an element; all others are attributes.
 const PROPERTIES = new Set([
   'value', 'checked', 'disabled', 'hidden', 'onclick', 'onchange', 'oninput', 'onsubmit', 'onkeydown', 'ontoggle',
 ]);
@@ -51,7 +51,7 @@ export function focusOn(key, place = document) {
   return element;
 }
 
-/** A button. Its key lets the focus find it again after the part of the page around it was made anew. */
+/** A button. Its key lets the focus find it after the part of the page around it was made again. */
 export function button(words, onclick, key, kind = '', more = {}) {
   return make('button' + (kind && '.' + kind), {type: 'button', 'data-key': key, onclick, ...more}, words);
 }
@@ -83,7 +83,7 @@ function hidden(c) {
   return make('span.hidden', {title: 'a character that does not show'}, name);
 }
 
-/** A text, cut at a limit. Characters that do not show, or that turn the direction, are told by their numbers. */
+/** A text, cut at a limit. Characters that do not show, or that change the direction, are shown by their numbers. */
 export function showText(text, limit = 300) {
   const all = Array.from(text), parts = [];
   if (text === '') parts.push(make('span.soft', {title: 'the empty text'}, '""'));

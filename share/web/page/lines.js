@@ -4,7 +4,7 @@ import {readAtoms, readMapping, tokens} from './values.js';
 
 const CUT = 4;  // rows of a line that are shown
 
-/** A line of the log: `add Hangs A · Room 1`. What there are no words for stays as it is. */
+/** A line of the log: `add Hangs A · Room 1`. A line without words of its own stays as it is. */
 export function showLine(line) {
   const [verb, ...rest] = tokens(line);
   return make('span.line', null, (verb?.name && inWords(verb.name, rest, line)) ?? code(line, 300));
@@ -65,7 +65,7 @@ function answerInWords([number, choice, ...rest]) {
   return choice?.name === 'delete' ? [said, cut(rows), rows.length > 1 ? ' go' : ' goes'] : null;
 }
 
-/** A mapping in words. A variable that stands once says nothing, and is left out. */
+/** A mapping in words. A variable that occurs only once says nothing, and is left out. */
 export function mappingInWords(rule, columnsOf) {
   const {left, right} = readMapping(rule);
   const names = [...left, ...right].flatMap(a => a.terms.map(t => t.name));

@@ -1,4 +1,4 @@
-// The connection: a line goes to the one process of yt behind it, and the objects of its reply come back, in order.
+// The connection: a line goes to its one process of yt, and the objects of the reply come back, in order.
 // A connection that is lost is opened again, after a longer wait each time.
 
 /** A reply that is a fault, or a connection that was lost before the reply came (`reply.lost`). */
@@ -18,15 +18,15 @@ export function parseReply(text) {
 
 export class Link {
   up = false;
-  onchange = () => {};      // it is up, or lost
-  onfault = () => {};       // a fault that no line asked for
+  onchange = () => {};      // called when it is up, or lost
+  onfault = () => {};       // called with a fault that no line asked for
   #socket = null;
   #queue = [];
   #tries = 0;
   #timer = 0;
   #name = '';
 
-  /** Connects under this name, or anew. */
+  /** Connects under this name, or connects again. */
   open(name) {
     this.#name = name;
     this.#close();
@@ -52,7 +52,7 @@ export class Link {
     });
   }
 
-  /** For how many seconds yt has been at work on the line that it has now. */
+  /** The number of seconds that yt has been at work on its present line. */
   get waited() { return this.#queue.length ? (Date.now() - this.#queue[0].since) / 1000 : 0; }
 
   #close() {

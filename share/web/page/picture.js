@@ -12,7 +12,7 @@ function svg(tag, attributes, ...kids) {
   return element;
 }
 
-/** The picture of these tables and mappings, and the tables that no mapping speaks of. */
+/** The picture of these tables and mappings, and the tables that no mapping mentions. */
 export function picture(tables, mappings) {
   const {nodes, edges} = graphOf(tables, mappings);
   const used = new Set(edges.flatMap(e => [e.from, e.to]));
@@ -49,7 +49,7 @@ function graphOf(tables, mappings) {
 
 // ---- where the nodes stand ----
 
-/** Whether a way leads from one node to another. */
+/** Whether a path leads from one node to another. */
 function leads(from, to, seen = new Set()) {
   if (from === to) return true;
   if (seen.has(from)) return false;
@@ -57,7 +57,7 @@ function leads(from, to, seen = new Set()) {
   return from.out.some(n => leads(n, to, seen));
 }
 
-/** Gives each node the length of the longest way to it. An edge that would close a circle runs back, and is left out. */
+/** Gives each node the length of the longest path to it. An edge that would close a cycle runs back, and is left out. */
 function rank(nodes, edges) {
   for (const {from, to} of edges) {
     if (leads(to, from)) continue;
@@ -74,7 +74,7 @@ function rank(nodes, edges) {
   for (const n of first) if (n.out.length) n.rank = Math.min(...n.out.map(next => next.rank)) - 1;
 }
 
-/** Places the nodes in columns, by rank; answers how wide and high that is. */
+/** Places the nodes in columns, by rank; returns the width and the height. */
 function place(nodes) {
   const ranks = [...new Set(nodes.map(n => n.rank))].sort((a, b) => a - b);
   const columns = ranks.map(r => nodes.filter(n => n.rank === r));

@@ -16,7 +16,7 @@ const FEW = 8;          // candidates that need no filter
 const NONE = 'none of them: a new one, with what is not known yet left open';
 const TYPING = 150;     // milliseconds after the last key before the filter is sent
 
-/** What makes a question the same, as far as the page has seen its candidates. */
+/** The identity of a question, as far as the page has seen its candidates. */
 const identity = q => JSON.stringify([q.kind, q.mapping, q.wanted, q.count, q.candidates]);
 
 export class QuestionCard {
@@ -56,13 +56,13 @@ export class QuestionCard {
     return askOne(`questions ${this.number} --limit ${limit}${like ? ' --like ' + quoted(like) : ''}`);
   }
 
-  /** Reads the question as it is now. A choice that was made on another one is not sent any more. */
+  /** Reads the question as it is now. A choice that was made on another question is no longer sent. */
   async update() {
     let now;
     try {
       now = await this.#ask('', CANDIDATES);
     } catch (error) {
-      if (error.reply?.status === 3) return;  // it waits no longer: the next status tells
+      if (error.reply?.status === 3) return;  // it no longer waits: the next status shows it
       throw error;
     }
     if (this.#identity && this.#identity !== identity(now) && this.#chosen) this.#stale = true;
@@ -159,7 +159,7 @@ export class QuestionCard {
 
   #id(candidate) { return candidate ? `candidate-${this.number}-${candidate.number}` : `none-${this.number}`; }
 
-  /** What chooses a candidate, or none of them. */
+  /** The button or box that chooses a candidate, or none of them. */
   #choice(candidate) {
     return make('input', {
       type: this.#question.kind === 'positive' ? 'radio' : 'checkbox', name: 'question-' + this.number,
@@ -191,7 +191,7 @@ export class QuestionCard {
     try {
       await doNow(this.#command(), this.#at, {done: this.forget});
     } catch (error) {
-      this.#refused = true;  // then the card stays, and tells who was faster
+      this.#refused = true;  // then the card stays, and shows who was faster
       await bringUpToDate();
       if (!this.#stale && !this.node.classList.contains('gone')) showFault(error, this.node);
     }
@@ -224,7 +224,7 @@ export class QuestionCard {
 
   // ---- afterwards ----
 
-  /** Told when the update waits no longer. Whether the card stays, because somebody had chosen something on it. */
+  /** Called when the update no longer waits. Returns whether the card stays, because something was chosen on it. */
   gone() {
     if (!this.#chosen && !this.#refused) return false;
     const about = line => line.startsWith(`answer ${this.number} `) || /^(undo|redo) /.test(line);

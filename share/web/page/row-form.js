@@ -65,7 +65,7 @@ function rowForm({name, columns, key}, title, values, verb, lineOf, options) {
 /** Asks for the values of a new row, and adds it. */
 export const addRow = table => rowForm(table, `Add a row to ${table.name}`, null, 'Add', row => 'insert ' + row);
 
-/** Asks for the new values of a row, and changes it. What hangs on the row stays. */
+/** Asks for the new values of a row, and changes it. Rows that depend on it stay. */
 export function changeRow(table, text, values, done) {
   rowForm(table, `Change a row of ${table.name}`, values, 'Change', row => `replace ${text} with ${row}`, {done});
 }

@@ -18,10 +18,10 @@ import {learn, me, workspace} from './workspace.js';
 
 const VIEWS = {tables, inbox, ask, mappings, violations, log, workspace: whole};
 const POLL = 2000;     // milliseconds between two looks at the log
-const HIDDEN = 15;     // of so many looks, a page that is not seen makes one
-const THOROUGH = 10;   // of so many looks, one asks for the status in any case
+const HIDDEN = 15;     // a page that is not visible makes one look in this many
+const THOROUGH = 10;   // one look in this many asks for the status in any case
 const SLOW = 3;        // seconds after which yt is said to be at work
-const STUCK = 30;      // seconds after which the page offers to connect anew
+const STUCK = 30;      // seconds after which the page offers to connect again
 
 const at = id => document.getElementById(id);
 let view = null;  // the view that is shown: {node, update(news)}

@@ -1,15 +1,15 @@
-// Who works here: the name that is kept in this browser, or that of a login, which counts and cannot be changed here.
+// Who works here: the name that is kept in this browser, or the name of a login, which comes first and cannot be changed here.
 import {openDialog} from './dialogs.js';
 import {actions, make} from './elements.js';
 import {link} from './link.js';
 import {me} from './workspace.js';
 
-const NAMELESS = 'someone';  // the name that is written if nobody said one
+const NAMELESS = 'someone';  // the name that is written if none was given
 const HELP = 'Letters, digits and _. It is written beside each change that you make, and kept in this browser. ' +
   'It is a label and proves nothing.';
 const place = document.getElementById('me');
 
-/** The name that was said in this browser, or nothing. */
+/** The name that was given in this browser, or nothing. */
 export const saidName = () => localStorage.getItem('yt-name') ?? '';
 
 /** Shows the name, and asks for one if none is known. */

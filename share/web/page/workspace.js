@@ -37,7 +37,7 @@ function forget() {
  */
 export async function learn(thorough) {
   const before = workspace.status;
-  let records = [], unread = workspace.at < 0;      // whether the records since are not to be had
+  let records = [], unread = workspace.at < 0;      // whether the records since then cannot be had
   if (!unread) {
     try {
       records = await newRecords();
@@ -70,7 +70,7 @@ async function statusNow() {
   }
 }
 
-/** The records after `at` that this curator wrote, among the first so many. */
+/** The records after `at` that this curator wrote, among the first `limit`. */
 export async function myRecords(at, limit) {
   return (await link.ask(`log --since ${at} --limit ${limit}`)).filter(r => r.count > 0 && r.curator === me());
 }

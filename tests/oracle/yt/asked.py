@@ -6,7 +6,7 @@ from .replies import plural
 
 
 class Asked:
-    """Names tuples, and tells questions."""
+    """Names tuples, and prints questions."""
 
     def fact(self, t):
         return T.show_fact(self.space.schema, t)
@@ -15,7 +15,7 @@ class Asked:
         return T.show_line(self.space.schema, cmd)
 
     def lost(self, name):
-        """Why a name stands for no unknown."""
+        """Why no unknown has this name."""
         s, chain, n = self.space, [], name[1:]
         while n in s.became:
             v, number = s.became[n]
@@ -30,7 +30,7 @@ class Asked:
                        "`show` has them; a new one is written ? in an insert", 3)
 
     def matching(self, t):
-        """The tuples by names that fit one with _ in it, in order."""
+        """The tuples, by names, that fit a tuple with _ in it, in order."""
         s = self.space
         if all(v[0] != 4 for v in t[1]):
             return [t]
@@ -61,7 +61,7 @@ class Asked:
         return self.space.show_mapping(self.space.mappings[q["mapping"]])
 
     def candidates(self, q, like=None):
-        """[(number, tuple)] of those that have the text in them, as they are shown."""
+        """[(number, tuple)] of the candidates that have the text in them as printed, in the order in which they are shown."""
         rows = [(i, self.fact(t)) for i, t in enumerate(q["candidates"], 1)]
         order = self.ranked(q)
         return sorted((r for r in rows if not like or like.lower() in r[1].lower()), key=lambda r: order[r[0] - 1])
@@ -92,7 +92,7 @@ class Asked:
         return out
 
     def ranked(self, q):
-        """For each candidate its rank: those first that share most values with what is known, then by number."""
+        """The rank of each candidate: first those with most values in common with the known ones, then by number."""
         if q["kind"] == "negative":
             return list(range(len(q["candidates"])))
         seen = {v for t in q["since"] for v in t[1]} | {v for _, t in q["so_far"] for v in t[1]}

@@ -5,7 +5,7 @@ from .replies import MANY, Reply, note_line, note_object, plural
 
 
 class Changed:
-    """Tells what a change did."""
+    """Prints what a change did."""
 
     def change(self, cmd, did, status, number=None, notes=(), next=(), again=(), question=None, effect=None, extra=()):
         s = self.space
@@ -77,7 +77,7 @@ class Changed:
         return "mapping %s is gone" % stop.mapping
 
     def reasons(self):
-        """{named tuple: mapping} of what the last items generated."""
+        """{named tuple: mapping} of the tuples that the last items generated."""
         s, out = self.space, {}
         for item in s.order[self.seen:] if self.seen is not None else ():
             how = {}

@@ -103,7 +103,7 @@ class Changing:
                                  ", ".join(self.fact(t) for t in s.lacking(name, key))) for key, image in bad]
 
     def run_item(self, line, steps, time):
-        """One numbered line: (item, stop); refuses what is spent or lost."""
+        """Does one numbered line: (item, stop); refuses an item that is spent or lost."""
         s = self.space
         item, stop = s.do_item(self.next_number(), self.ws.who, time, line, steps)
         if stop is not None and stop.why == "lost":
@@ -166,7 +166,7 @@ class Changing:
         return self.change(line, "done", DONE, item.number, notes=notes, effect=effect, next=next)
 
     def vague(self, r):
-        """The tuples of a relation that have unknowns, by column and value; once for a command."""
+        """The tuples of a relation that have unknowns, by column and value; computed once for each command."""
         if r not in self.vagues:
             index = self.vagues[r] = {}
             for y in self.space.facts.relation(r):
@@ -177,7 +177,7 @@ class Changing:
         return self.vagues[r]
 
     def kinds(self, r, c):
-        """How many numbers and how many texts a column has; once for a command."""
+        """The numbers of numbers and of texts in each column; computed once for each command."""
         if (r, c) not in self.vagues:
             kinds = [y[1][c][0] for y in self.space.facts.relation(r)]
             self.vagues[(r, c)] = (kinds.count(0), kinds.count(1))
@@ -233,7 +233,7 @@ class Changing:
         return self.single(cmd, cmd[-1], cmd[1])
 
     def nearest(self, t):
-        """Tuples of the relation that share most values, three at most."""
+        """Tuples of the relation that share most values, at most three."""
         s = self.space
         best = {}
         for c, v in enumerate(t[1]):

@@ -1,4 +1,4 @@
-"""The chase of the reference, step by step, as yt looks at it: what each step was, and why it put a tuple."""
+"""The chase of the reference, step by step, as yt uses it: the kind of each step, and why it put a tuple."""
 from ..matching import evaluate, extends, images, matches, substitute
 from ..steps import Program as Attempt
 from ..steps import fits
@@ -12,12 +12,12 @@ class Mapping(Plain):
     """A mapping that can be compared with another."""
 
     def key(self):
-        """Equal keys say that two are the same as they were said."""
+        """Two mappings with equal keys are the same as written."""
         return self.name, tuple(self.names), self.left, self.right
 
 
 class Program(Attempt):
-    """An attempt that also tells what its last step was, in `kind`."""
+    """An attempt that also keeps the kind of its last step, in `kind`."""
 
     def step(self, value, answers, mappings, budget):
         before, asked = self.phase, self.question

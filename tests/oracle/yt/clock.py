@@ -9,7 +9,7 @@ def now():
 
 
 def apart(work):
-    """What the work answers or raises in a process of its own, so that nothing changes here."""
+    """The result or the exception of work that is done in a process of its own, so that nothing changes here."""
     r, w = os.pipe()
     pid = os.fork()
     if pid == 0:

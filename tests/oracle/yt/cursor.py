@@ -123,7 +123,7 @@ class Cursor:
         return b
 
     def word(self, expected):
-        """A text, or what stands up to the next blank."""
+        """A text, or the characters up to the next blank."""
         if self.is_sign('"'):
             return self.text().decode()
         m = re.compile(r"[^ \t\r]+").match(self.s, self.i)

@@ -1,4 +1,4 @@
-"""yt: what stands, as a session of youtopia."""
+"""yt: the workspace as it stands, as a session of youtopia."""
 from ..printing import session_text
 from ..values import Facts, Mapping, Session, Update
 from .logging import item_line

@@ -6,7 +6,7 @@ from .replies import DONE, NOTHING, Reply, plural
 
 
 class Explaining:
-    """Tells where things come from."""
+    """Explains tuples and unknowns."""
 
     def why_unknown(self, name):
         s = self.space

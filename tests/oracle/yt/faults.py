@@ -2,7 +2,7 @@
 
 
 class Fault(Exception):
-    """status 2: the line cannot be read; 3: it does not fit the workspace. `at` is a place in the line or None."""
+    """Status 2: the line cannot be read; 3: it does not fit the workspace. `at` is a place in the line or None."""
 
     def __init__(self, words, at=None, hint=None, status=2, more=()):
         super().__init__(words)
@@ -10,7 +10,7 @@ class Fault(Exception):
 
 
 def distance(a, b):
-    """How many letters to put in, take out, change, or swap with the next."""
+    """The number of letters to insert, delete, change, or swap with the next."""
     rows = [list(range(len(b) + 1))]
     for i, x in enumerate(a, 1):
         row = [i]
@@ -24,7 +24,7 @@ def distance(a, b):
 
 
 def near(word, names):
-    """The first of the nearest names, where a third of the letters of the longer differ at most; capitals count for nothing."""
+    """The first of the nearest names, if at most a third of the letters of the longer one differ; capitals do not matter."""
     best = None
     for n in names:
         d = distance(word.lower(), n.lower())

@@ -1,4 +1,4 @@
-"""What a line of yt asks for: a tuple that begins with its verb and ends with its options."""
+"""The command of a line of yt: a tuple that begins with its verb and ends with its options."""
 import re
 
 from .cursor import NULL, OPTION, Cursor
@@ -319,7 +319,7 @@ def body(c, verb, schema, mappings):
 
 
 def lines_of(line):
-    """How many of the next lines of the input belong to this one, also if it is refused: `load .. --lines N`."""
+    """The number of the next lines of the input that belong to this one, even if it is refused: `load .. --lines N`."""
     if not re.match(r"[ \t\r]*(try[ \t\r]+)?load(?![A-Za-z0-9_])", line):
         return 0
     bare = re.split(r"[ \t\r]#", re.sub(r'"(\\.|[^"\\])*"', '""', line))[0]
@@ -328,7 +328,7 @@ def lines_of(line):
 
 
 def reads_input(line):
-    """Whether it is `load NAME -`."""
+    """Whether the line is `load NAME -`."""
     try:
         cmd = parse(line, Schema(), {})
     except Fault:

@@ -1,4 +1,4 @@
-"""Tables as text, by the width that letters have on a screen."""
+"""Tables as text, by the width of letters on a screen."""
 import re
 import unicodedata
 
@@ -22,7 +22,7 @@ PLAIN = re.compile(r"-?[0-9]+\Z|\?")
 
 
 def cell(v):
-    """A value in a table: a text stands bare where it cannot be taken for anything else."""
+    """A value in a table: a text has no quotes if it cannot be taken for anything else."""
     if v[0] != 1:
         return show_value(v)
     s = v[1].decode()
@@ -32,7 +32,7 @@ def cell(v):
 
 
 def table(columns, rows):
-    """Aligned lines; a column of numbers stands to the right."""
+    """Aligned lines; a column of numbers is aligned to the right."""
     cells = [[cell(v) for v in row] for row in rows]
     right = [bool(rows) and all(row[i][0] == 0 for row in rows) for i in range(len(columns))]
     ws = [max([width(columns[i])] + [width(r[i]) for r in cells]) for i in range(len(columns))]

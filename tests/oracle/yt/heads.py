@@ -1,4 +1,4 @@
-"""The head of a file: written from what stands, and read."""
+"""The head of a file: written from the workspace as it stands, and read."""
 from . import text as T
 from .items import Item
 from .logging import bare, head_rule, item_line, read_answer, read_item, answer_line
@@ -31,7 +31,7 @@ class Heads:
         return out + ["end"]
 
     def is_gone(self, name):
-        """Whether a question or an unknown came by a mapping that was dropped."""
+        """Whether a question or an unknown came from a mapping that was dropped."""
         return name.removeprefix("_fix_") in self.gone
 
     def read_head(self, payload):
@@ -101,7 +101,7 @@ class Heads:
         self.records.append(entry)
 
     def changed(self):
-        """The relations whose tuples are others than at `begin`, where no undo came between."""
+        """The relations whose tuples have changed since `begin`, if no undo came between."""
         return {t[0] for t, was in self.touched.items() if (t in self.facts) != was and t[0] < WANT}
 
     def log_line(self, entry, text):

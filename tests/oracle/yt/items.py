@@ -1,4 +1,4 @@
-"""What is kept of an update, and why one does not stand."""
+"""What is kept of an update, and why an update does not stand."""
 
 
 class Stop(Exception):

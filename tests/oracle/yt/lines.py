@@ -1,4 +1,4 @@
-"""What each line of the log does: updates, answers, undo and redo."""
+"""The effect of each line of the log: updates, answers, undo and redo."""
 from .chase import Facts
 from .items import Item
 
@@ -20,7 +20,7 @@ class Lines:
         return stop
 
     def sweep(self):
-        """What waits for a mapping that is gone, or waits to put one in force that is, is given up."""
+        """Gives up updates that wait for a dropped mapping, or wait to put a mapping in force that is in force already."""
         for n, item in list(self.waiting.items()):
             if item.line[0] in ("fix", "force", "drop") and item.line[1] in self.gone or \
                     item.line[0] == "force" and item.line[1] in self.force:
@@ -38,7 +38,7 @@ class Lines:
             self.waiting[item.number] = item
 
     def answer(self, number, choice, key):
-        """Answers (item, stop); the answer counts where it fits the question that it was given to."""
+        """Returns (item, stop); the answer counts if it fits the question that it was given to."""
         self.history.append(("answer", number, choice, key))
         return self.items[number], self.take(number, choice, key)
 
@@ -72,7 +72,7 @@ class Lines:
         return self.replay_lines(numbers)
 
     def replay_lines(self, numbers):
-        """All lines that count, anew from the base. Answers the other updates that this changed, by number."""
+        """Does all lines that count again, from the base. Returns the other updates that this changed, by number."""
         old = {n: (i.state, i.writes) for n, i in self.items.items()}
         self.restart()
         for i, e in enumerate(self.history):
@@ -91,7 +91,7 @@ class Lines:
         return changed
 
     def restart(self):
-        """Back to the base of the last fold, with what waited then."""
+        """Goes back to the base of the last fold, with the updates that waited then."""
         self.facts = Facts(self.base)
         self.force, self.gone = list(self.base_force), set(self.base_gone)
         self.name_of, self.null_of, self.order, self.seq, self.became = {}, {}, [], 0, {}

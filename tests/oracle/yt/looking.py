@@ -9,7 +9,7 @@ from .text import span
 
 
 class Looking:
-    """Tells of what stands."""
+    """Prints what stands."""
 
     def json_value(self, v):
         if v[0] == 2:

@@ -1,4 +1,4 @@
-"""Unknowns by name, and mappings as they were said."""
+"""Unknowns by name, and mappings as they were written."""
 from . import text as T
 from .chase import Mapping, extends, matches, plain_cycle
 from .items import Stop
@@ -60,7 +60,7 @@ class Naming:
         return Mapping("_fix_" + name, [m.names[v] for v in order], len(front), left, right)
 
     def make_mapping(self, line):
-        """The mapping of a line; raises Fault where it may not be."""
+        """The mapping of a line; raises Fault if it is not allowed."""
         _, name, left, right = line[:4]
         numbers, names, sides, universal = {}, [], [], None
         used = {v for side in (left, right) for _, ts in side for k, v in ts if k == "v"}

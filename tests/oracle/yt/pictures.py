@@ -57,7 +57,7 @@ def esc(s):
 
 
 def svg(space):
-    """Relations and mappings in columns: a relation stands behind the mappings that lead to it, as far as there is no circle."""
+    """Relations and mappings in columns: a relation stands after the mappings that lead to it, as far as there is no cycle."""
     rels = [n for n, _ in space.schema.relations]
     es = edges(space)
     rank = {("r", i): 0 for i in range(len(rels))}

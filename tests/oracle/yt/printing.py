@@ -1,4 +1,4 @@
-"""How values, tuples, lines and numbers of yt are printed."""
+"""The printed forms of values, tuples, lines and numbers of yt."""
 
 
 def control(ch):

@@ -17,12 +17,12 @@ def curator(name):
 
 
 def is_text(word):
-    """Whether a word of the command line, whose bytes that are not UTF-8 are surrogates here, has none of these."""
+    """Whether a word of the command line is UTF-8; here, bytes that are not UTF-8 are surrogates."""
     return not any("\udc80" <= letter <= "\udcff" for letter in word)
 
 
 def wants_json(argv):
-    """Whether --json stands in front of the command, in words that may be at fault."""
+    """Whether --json stands in front of the command, in words that may have faults."""
     i, files = 0, 0
     while i < len(argv) and files < 2:
         if argv[i] == "--json":
@@ -69,7 +69,7 @@ def words_of(argv):
 
 
 def next_lines(count):
-    """(bytes, how many lines): so many lines of standard input, or as many as there are."""
+    """(bytes, number of lines): this number of lines of standard input, or as many as there are."""
     out, n = [], 0
     while n < count:
         raw = sys.stdin.buffer.readline()

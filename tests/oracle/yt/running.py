@@ -68,7 +68,7 @@ class Running:
         return run
 
     def place(self, origin):
-        """The same cause in the same update has the same place for ever; another gets the next that is free."""
+        """The place of a cause: always the same for the same cause in the same update; another cause gets the next free place."""
         p = self._places.get(origin)
         if p is None or p in self._used:
             p = max(list(self._places.values()) + list(self._used), default=0) + 1
@@ -82,7 +82,7 @@ class Running:
         return h
 
     def choice(self, named, q):
-        """The answer as a choice of the oracle, or None where it does not fit."""
+        """The answer as a choice of the oracle, or None if it does not fit."""
         kind = named[0]
         if q[0] == "positive":
             if kind == "expand":
@@ -100,7 +100,7 @@ class Running:
         return ("delete", tuple(members[t] for t in named[1]))
 
     def key(self, item, p, maps):
-        """Which question it is: its mapping and tuples."""
+        """The identity of a question: its mapping and tuples."""
         q = p.question
         return (maps[q[1]].name, tuple(map(self.named, (q[2],) if q[0] == "positive" else q[2])))
 
@@ -205,7 +205,7 @@ class Running:
         return v
 
     def run(self, item, peek=False):
-        """Runs the item over what stands. Answers None where it is done, else its Stop; then nothing has changed."""
+        """Runs the item over what stands. Returns None if it is done, otherwise its Stop; then nothing has changed."""
         self._undo, self._runs, self._touched, self._drawn, self._taken, self._subs, self._work = [], [], {}, 0, 0, [], 0
         self._image, self._places, self._used = (), dict(item.places), set()
         seq, force, gone = self.seq, list(self.force), set(self.gone)
@@ -240,5 +240,5 @@ class Running:
         return stop
 
     def begin(self):
-        """Before a command: what it touches and fills is counted from here."""
+        """Begins a command: the tuples that it touches and the unknowns that it fills are counted from here."""
         self.touched, self.subs, self.mark = {}, [], self.seq

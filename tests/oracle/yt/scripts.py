@@ -32,7 +32,7 @@ class Writer:
         return self.workspace.space
 
     def say(self, line):
-        """Does the line by the reference, and keeps it."""
+        """Lets the reference do the line, and keeps it."""
         self.lines.append(line)
         self.workspace.command(line)
         if self.space is None:
@@ -43,7 +43,7 @@ class Writer:
             self.say("relation %s(%s)" % (name, ", ".join(columns)))
 
     def unknown(self):
-        """The name of an unknown that stands, if there is one."""
+        """The name of an unknown that stands, if any."""
         s = self.space
         names = sorted({n for k, n in s.name_of.items() if s.facts.occurs(*k)})
         return "?%d.%d" % self.rng.choice(names) if names else None
@@ -120,8 +120,8 @@ class Writer:
 
 
 def random_script(seed, workspace):
-    """The lines of a script, done one after the other by this workspace, whose file is not there yet. Many lines of an odd seed from
-    1,000,001 on fold and drop."""
+    """The lines of a script, done one after the other by this workspace, whose file does not exist yet. Many lines of an odd seed
+    from 1,000,001 on fold and drop."""
     rng = random.Random(seed)
     writer = Writer(rng, workspace, 25 if seed > 1000000 and seed % 2 else 3)
     writer.begin()

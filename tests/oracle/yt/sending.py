@@ -19,7 +19,7 @@ class Sending:
     """Sends texts to a file or to the output."""
 
     def sent(self, text, opts, kind):
-        """A text to --to FILE, or to the output; a database to --sqlite FILE."""
+        """Sends a text to --to FILE, or to the output; a database to --sqlite FILE."""
         if "sqlite" in opts:
             return self.wrote(opts["sqlite"], "\n".join(text) + "\n", write_database)
         if "to" in opts:

@@ -1,4 +1,4 @@
-"""What a log stands for.
+"""The state that a log stands for.
 
 Inside, a null is (2, seq, k, 0): the k-th that the seq-th update of the session drew. Outside it has a name (2, U, P).
 An item is a numbered line. It stands (in `order`), waits (in `waiting`), or is undone (in neither).

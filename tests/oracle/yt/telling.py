@@ -4,14 +4,14 @@ from .naming import WANT
 
 
 class Telling:
-    """Looks at what stands."""
+    """Answers questions about what stands."""
 
     def visible(self):
         """The repository: its tuples in order, by their names."""
         return [self.named(t) for t in self.facts.list() if t[0] < WANT]
 
     def effect(self):
-        """(came, went, filled, merged) since `begin`, where no undo came between."""
+        """(came, went, filled, merged) since `begin`, if no undo came between."""
         def sub(t):
             for _, s in self.subs:
                 t = substitute(s, t)

@@ -1,4 +1,4 @@
-"""How lines are read and printed: all of it under one name.
+"""How lines are read and printed, gathered under one name.
 
 A value is (0, number), (1, bytes), (2, U, P) an unknown by its name, or (3, name) a new unknown ('' for a bare ?).
 A fact is (relation number, (value, ..)).

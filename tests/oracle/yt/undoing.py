@@ -38,7 +38,7 @@ class Undoing:
         return self.again(("redo", tuple(take), cmd[-1]), s.redo, ["not undone: %s" % span(rest)] if rest else [])
 
     def again(self, line, how, notes):
-        """Does the lines anew, and tells what is different."""
+        """Does the lines again, and prints what is different."""
         s, time = self.space, now()
         before, force = s.visible(), list(s.force)
         changed = how(line[1])

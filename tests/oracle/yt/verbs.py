@@ -5,7 +5,7 @@ VERBS = ["relation", "mapping", "adopt", "drop", "insert", "delete", "replace", 
          "fold", "show", "ask", "why", "questions", "violations", "log", "status", "graph", "page", "export", "dump", "help",
          "quit"]
 CHANGES = {"relation", "mapping", "adopt", "drop", "insert", "delete", "replace", "answer", "undo", "redo", "load", "fold"}
-OPTIONS = {      # verb: {option: None for a flag, else what its value is}
+OPTIONS = {      # verb: {option: None for a flag, otherwise the kind of its value}
     "insert": {"only": None, "steps": "number"}, "delete": {"only": None, "cascade": None, "steps": "number"},
     "replace": {"only": None, "cascade": None, "steps": "number"}, "answer": {"at": "number"}, "undo": {"answers": None},
     "adopt": {"steps": "number"},
@@ -15,7 +15,7 @@ OPTIONS = {      # verb: {option: None for a flag, else what its value is}
     "questions": {"like": "word", "limit": "number", "mine": None}, "violations": {"limit": "number"}, "log": {"limit": "number", "since": "number"},
     "export": {"csv": None, "sql": None, "json": None, "to": "word"}, "page": {"to": "word"},
     "graph": {"to": "word"}, "dump": {"to": "word"}}
-UNTOLD = {"export": {"sqlite": "word"}}  # those that no fault lists
+UNTOLD = {"export": {"sqlite": "word"}}  # options that no fault lists
 RECORDS = {"at", "since", "still"}       # options that take the number of a record
 for _verb in CHANGES:
     OPTIONS.setdefault(_verb, {})["still"] = "number"

@@ -22,12 +22,12 @@ class Workspace:
         self.shown = {}          # questions that this process has shown: number -> candidates
 
     def say(self, path):
-        """What a fault calls a file: its last part, if replies are objects."""
+        """The name of a file in faults: its last part, if replies are objects."""
         return os.path.basename(path.rstrip("/")) or path if self.brief else path
 
     # ---- the file ----
     def open(self, write):
-        """Locks, and reads what is new. Answers whether there is a file."""
+        """Locks the file, and reads what is new. Returns whether there is a file."""
         changed = self.journal.lock(write)
         if changed is None:
             return False
@@ -65,7 +65,7 @@ class Workspace:
 
     # ---- commands ----
     def command(self, line, data=None):
-        """The reply to one line, or None where the line is blank. `data`: (bytes, how many lines), what belongs to a load."""
+        """The reply to one line, or None if the line is blank. `data`: (bytes, number of lines), what belongs to a load."""
         self.data = data
         verb = re.match(r"\s*([A-Za-z_]*)", line).group(1)
         write = verb in T.CHANGES
@@ -109,7 +109,8 @@ class Workspace:
             self.journal.unlock()
 
     def allowed(self, cmd):
-        """Refuses a command that reads or writes another file, if files are closed; and one that is not --still up to date."""
+        """Refuses a command that reads or writes another file, if files are not allowed; and a command that is not --still up to
+        date."""
         cmd = cmd[1] if cmd[0] == "try" else cmd
         if self.closed and (cmd[0] == "load" and cmd[2] not in (None, "-") or "to" in cmd[-1] or "sqlite" in cmd[-1]):
             raise T.Fault("files are closed", None, None, 3)

@@ -1,4 +1,4 @@
-"""The connection breaks, and comes back with what came meanwhile."""
+"""The connection breaks, and comes back with the changes made meanwhile."""
 
 
 def lost_and_back(stage):

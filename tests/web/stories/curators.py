@@ -1,4 +1,4 @@
-"""Two curators on one workspace: questions, answers that come too late, and what each sees of the other."""
+"""Two curators on one workspace: questions, answers that come too late, and what each curator sees of the other."""
 
 
 def one_asks_and_the_other_answers(stage):
@@ -71,7 +71,7 @@ def a_question_that_changes_is_not_answered_unseen(stage):
     ann.click(".warning button")
     ann.sees(".candidates", "Fabritius")
     ann.click(".candidates label", "Rembrandt")
-    # without hearing of it, yt refuses the answer
+    # the page does not know of it, so yt refuses the answer
     deaf(ann)
     served.says('insert Painter("Hals", "NL")')
     ann.click(".card button", "Answer")
@@ -101,7 +101,7 @@ def of_many_candidates_one_is_found(stage):
     assert "Painter 117" in served.says("show Painting")
 
 
-# Keeps what is new from a page for a while, as a slow line does.
+# Keeps news from a page for a while, as a slow line does.
 DEAF = """Promise.all([import('./link.js'), import('./workspace.js')]).then(async ([{link}, {workspace}]) => {
     const ask = link.ask;
     link.ask = function (line, rows) {
@@ -114,7 +114,7 @@ DEAF = """Promise.all([import('./link.js'), import('./workspace.js')]).then(asyn
 
 
 def deaf(page):
-    """From now on the page hears of no record: also not by a look at the log that was under way."""
+    """From now on the page learns of no record, not even by a look at the log that was under way."""
     page.js(DEAF)
 
 

@@ -5,7 +5,7 @@ import time
 
 
 def drop(page, name, data):
-    """Drops a file on the table that is shown."""
+    """Drops a file on the visible table."""
     page.js("""(() => { const d = new DataTransfer(); d.items.add(new File([Uint8Array.from(%s)], %s));
         document.querySelector('.drop').dispatchEvent(new DragEvent('drop', {dataTransfer: d, bubbles: true, cancelable: true})); })()""" % (
         json.dumps(list(data)), json.dumps(name)))

@@ -115,7 +115,7 @@ def a_fold_is_confirmed_and_told(stage):
 
 
 def a_curator_who_has_never_seen_a_shell(stage):
-    """By what stands on the page alone: three answers, a value filled in, a row corrected, a mistake undone."""
+    """Uses only what the page shows: three answers, a value filled in, a row corrected, a mistake undone."""
     served = stage.serve()
     for title, room in (("Girl with a Pearl Earring", 15), ("The Goldfinch", 14), ("The Bull", 12)):
         served.says('insert Hangs("%s", "Room %d")' % (title, room))

@@ -1,4 +1,4 @@
-"""Values that look like markup, commands, numbers or unknowns, or that turn the direction; and requests that no page sends."""
+"""Values that look like markup, commands, numbers or unknowns, or that change the direction; and requests that no page sends."""
 import http.client
 import json
 import os

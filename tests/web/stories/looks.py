@@ -1,4 +1,4 @@
-"""Names for all that takes the focus, contrast, narrow screens, light and dark."""
+"""Names for every element that takes the focus, contrast, narrow screens, light and dark."""
 import time
 
 VIEWS = ("tables/Painter", "inbox", "ask", "mappings", "violations", "log", "workspace")

@@ -23,7 +23,7 @@ export function open() {
   return kept;
 }
 
-/** Fills the view; answers what brings its answers up to date. */
+/** Fills the view; returns the function that brings its answers up to date. */
 function asking(body) {
   const columns = make('div');
   const line = make('p');
@@ -31,7 +31,7 @@ function asking(body) {
   const uncertain = make('input', {type: 'checkbox', id: 'uncertain', onchange: () => attempt(ask)});
   const go = make('button.main', {'data-key': 'ask'}, 'Ask');
   const editor = patternEditor('ask', i => i ? 'and' : 'From', () => changed());
-  const hidden = new Set();  // variables that are no columns of the answer
+  const hidden = new Set();  // variables that are not columns of the answer
   let asked = false;
 
   const variables = () => variablesOf(editor.patterns());

@@ -1,4 +1,4 @@
-// The log: what was said, newest first, with undo and redo.
+// The log: what was done, newest first, with undo and redo.
 import {stateBadge, undoButton} from '../details.js';
 import {attempt} from '../dialogs.js';
 import {ago, button, fill, make, plural, showText, soft} from '../elements.js';
@@ -23,7 +23,7 @@ async function isThere(record) {
   }
 }
 
-/** The record that the log begins after: 0, or that of the last fold. No reply tells it, so it is looked for. */
+/** The record that the log begins after: 0, or the record of the last fold. No reply has it, so it is searched for. */
 async function beginning() {
   const {created, folded} = workspace.status;
   const log = `${created} ${folded}`;
@@ -82,7 +82,7 @@ function lineRow({time, curator}, {line, number, state, comment}) {
     make('td.end', null, number && state !== 'given up' ? undoButton(number, {line, state}) : null));
 }
 
-// A record tells its first three lines. The numbers of its updates follow each other, after the lines that have none.
+// A record has its first three lines. The numbers of its updates follow each other, after the lines that have none.
 function moreRow({lines, count}) {
   const first = lines.find(l => l.number)?.number;
   const bare = lines.filter(l => !l.number).length;

@@ -127,7 +127,7 @@ class TableView {
     return {...reply, rows: rows.slice(page * PAGE, (page + 1) * PAGE)};
   }
 
-  /** The rows that are shown, after the page and the order are such that there are some. */
+  /** The rows that are shown. A page beyond the last, or a sort of too many rows, is mended first. */
   async #readShown() {
     const found = await this.#read();
     const count = found.count ?? 0;

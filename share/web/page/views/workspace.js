@@ -58,7 +58,7 @@ function fold() {
   const go = button('Fold', () => foldNow(at), 'fold-now', 'main.danger');
   openDialog('Fold the workspace', [make('p.warning', null, words), actions(cancel, go)], {focus: cancel});
 }
-// If the log has gone on since, the question is put again.
+// If the log has gone on since, the question is asked again.
 async function foldNow(at) {
   try {
     await doNow(`fold --still ${at}`, at);
