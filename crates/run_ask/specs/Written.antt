@@ -35,8 +35,8 @@ ask_at words = do
   called ← name_at words
   inside ← open_at called.1
   head ← head_at inside
-  rest ← colon_at head.1
-  body ← right_at rest
+  behind ← colon_at head.1
+  body ← right_at behind
   Ok (record { head = head.0; body = body })
 
 -- from 1 to 8

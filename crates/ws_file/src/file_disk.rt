@@ -97,7 +97,7 @@ impl FileDisk {
         } = self;
         let base = base.checked_add(place as u64).ok_or(Memory)?;
         let made_of = bytes[place..].to_vec(alloc)?;
-        log.begin_again();
+        log.begin_anew();
         Ok(FileDisk {
             alloc,
             file,
