@@ -94,7 +94,7 @@ ROWS = [
     ("an update that is spent, over two levels", 4, 3, LEANING_ON_LONG, "3 step u1, 4 step u2, 2 step u3, step u1, standing u2, drain, result"),
     ("without retries an update that was aborted once waits for all lower ones", 100, 0, INSERT_DELETE,
      "2 step u2, step u1, standing u2, step u2, 3 step u1, counts, standing u2, drain, counts, result"),
-    ("whoever took over a null starts anew with the update that drew it", 100, 3, TAKEN_NULL,
+    ("whoever took over a null starts again with the update that drew it", 100, 3, TAKEN_NULL,
      "4 step u2, 2 step u3, step u1, standing u3, drain, result"),
     ("calls at a question, and a withdrawal that commits", 100, 3, CAPITAL,
      "3 step u1, standing u1, question u1, deliver u1, answer u1 delete Country(1, 2), step u2, step u0, withdraw u1, counts, withdraw u1"),
@@ -210,7 +210,7 @@ next s2: ticket 3 of update 2, stamp 3
 evaluate s2: planned
 finish s1: stepped, entry 4
 finish s2: stale, entry 4"""),
-    ("a ticket that is given back, and given anew",
+    ("a ticket that is given back, and given again",
      INSERT_DELETE, "next s1: ticket 1 of update 1, stamp 2\nback s1: back\nnext s1: ticket 2 of update 1, stamp 2"),
 ]
 

@@ -14,8 +14,8 @@
    FAULTS_INSIDE=1     for programs with one thread: instead of a run from the start for each N, the one run is split in two at each call,
                        and the half in which the call is refused is taken to its end first
    FAULTS_REPLIES=FILE of yt_live, which replies while it reads: a line 'IN OUT' of the file for each line of the input says that with
-                       these IN bytes read, OUT bytes are told. Behind each refused call there is what was told before it, which has what
-                       was due at the last read; behind a refused read all that is due, behind a refused request whole replies
+                       these IN bytes read, OUT bytes are told. After each refused call there is what was told before it, which has what
+                       was due at the last read; after a refused read all that is due, after a refused request whole replies
 
    FAULTS_SHAKE=S      without FAULTS: nothing is refused, but threads sleep a moment at some of their requests of memory, by numbers
                        drawn with the seed S, so that they meet in other orders */
@@ -121,7 +121,7 @@ static bool same(const struct telling *told, const struct telling *wanted) {
     && memcmp(told->out, wanted->out, told->out_size) == 0 && memcmp(told->err, wanted->err, err_size) == 0;
 }
 
-/* What is told with a status on err, behind these bytes on out. */
+/* What is told with a status on err, after these bytes on out. */
 static struct telling failure(int status, size_t out_size, const char *why) {
   static char line[100];
   snprintf(line, sizeof line, "%s: %s\n", program, why);
@@ -192,7 +192,7 @@ static void judge(const struct telling *told, long number) {
 
 /* ---- running ---- */
 
-/* Has a stream go on in a file, behind what it was told so far in the run that is split. */
+/* Has a stream go on in a file, after what it was told so far in the run that is split. */
 static void go_on(int stream, int file) {
   off_t start = 0, size = inside ? lseek(stream, 0, SEEK_CUR) : 0;
   if (size > 0 && sendfile(file, stream, &start, size) != size) give_up("sendfile");
@@ -222,7 +222,7 @@ static void note_bytes(void) {
   at->last = bytes.last;
 }
 
-/* Splits: answers true in the new run whose call of this number is to be refused, and false behind it. */
+/* Splits: answers true in the new run whose call of this number is to be refused, and false after it. */
 static bool attack(long number) {
   int out = memfd_create("out", MFD_CLOEXEC), err = memfd_create("err", MFD_CLOEXEC);
   off_t place = lseek(0, 0, SEEK_CUR);
@@ -333,7 +333,7 @@ __attribute__((constructor)) static void start(void) {
   _exit(failed > 0);
 }
 
-/* Behind main: the end of the one that is split, which has told what the row tells. */
+/* After main: the end of the one that is split, which has told what the row tells. */
 __attribute__((destructor)) static void stop(void) {
   if (!inside || attacked || kind == KINDS) return;
   struct telling end = {.status = own.status};

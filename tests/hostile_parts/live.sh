@@ -1,5 +1,5 @@
 # Conversations with yt_live: each request of memory and each call of a device fails in turn, and inputs are cut. What was replied stays so:
-# behind a refused request there are the whole replies up to it, behind a failed read all that is due by what was read, behind a failed
+# after a refused request there are the whole replies up to it, after a failed read all that is due by what was read, after a failed
 # write what was taken; and the status is the stated one.
 python3 -B "$here/conversations.py" "$stored" ${cheap:+cheap} || tally 'conversations' '0 passed, 1 failed'
 

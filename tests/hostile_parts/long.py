@@ -93,8 +93,8 @@ def statements():
 
 # ---- whole inputs ----
 
-def filled(before, behind, filler, size=LIMIT):
-    return before + filler * (size - len(before) - len(behind)) + behind
+def filled(before, after, filler, size=LIMIT):
+    return before + filler * (size - len(before) - len(after)) + after
 
 
 def wholes():
@@ -102,7 +102,7 @@ def wholes():
     yield "line feeds alone", ["check"], b"\n" * LIMIT, fault(LIMIT + 1, 20, b"header is not youtopia 1 or 2")
     yield "blank lines, no end", ["run"], filled(b"youtopia 1\n", b"", b"\n"), fault(LIMIT - 9, 25, b"end is missing")
     yield "blank lines, then end", ["check"], filled(b"youtopia 1\n", b"end", b"\n"), counts(0, 0, 0, 0, 0)
-    yield "something behind blank lines", ["check"], filled(b"youtopia 1\nend\n", b"x", b"\n"), fault(LIMIT - 13, 26, b"something follows end")
+    yield "something after blank lines", ["check"], filled(b"youtopia 1\nend\n", b"x", b"\n"), fault(LIMIT - 13, 26, b"something follows end")
     yield "blanks", ["check"], filled(b"youtopia 1", b"\nend\n", b" "), counts(0, 0, 0, 0, 0)
     yield "open parentheses", ["run"], b"(" * LIMIT, fault(1, 20, b"header is not youtopia 1 or 2")
     yield "commas", ["run"], filled(b"youtopia 1\nrelation A", b"", b","), fault(2, 21, b"expected number")
@@ -149,7 +149,7 @@ def sessions():
     """Sessions at several limits at once; the right answer stands beside each session."""
     yield "paths through mappings", ["format"], session_with(4) + END, ended(session_with(4) + END)
     closing = b"mapping back: R127(x) -> R127(x)\n"
-    yield "a cycle behind them", ["check"], session_with(4) + closing + END, fault(190, 6, b"mapping back closes a plain cycle")
+    yield "a cycle after them", ["check"], session_with(4) + closing + END, fault(190, 6, b"mapping back closes a plain cycle")
     wide = b"youtopia 2\nrelation A 8\n" + b"".join(
         b'base A(%d, 1, 2, 3, 4, 5, 6, "%s")\n' % (number, b"x" * 125) for number in range(100000)) + END
     yield "base tuples", ["check"], wide, counts(1, 0, 100000, 0, 0)
@@ -229,7 +229,7 @@ def conversations():
     longer = 8, ready + b"idle\n", b"yt_live: input longer than 16777216 bytes\n"
     yield "a byte too many", filled(opening + b"step\n", b"step", b"\n", LIMIT + 1), longer
     yield "many bytes too many", filled(opening + b"step\n", b"", b" ", 3 * LIMIT), longer
-    yield "a byte too many behind the end", filled(opening + b"step\nquit\n", b"step", b"\n", LIMIT + 1), ended(ready + b"idle\nbye\n")
+    yield "a byte too many after the end", filled(opening + b"step\nquit\n", b"step", b"\n", LIMIT + 1), ended(ready + b"idle\nbye\n")
 
 
 # ---- little memory ----

@@ -65,7 +65,7 @@ class Meeting:
             self.writes(f"cut at {place}", data[:place])
             self.writes(f"a byte at {place}", data[:place] + bytes([data[place] ^ 1]) + data[place + 1:])
             self.writes(f"zeros from {place}", data[:place] + bytes(size - place))
-        self.writes("rubbish behind it", data + b"rubbish" * 99)
+        self.writes("rubbish after it", data + b"rubbish" * 99)
         self.writes("a record twice", data[:-1] + b"\1" + data[-40:])
         self.writes("another workspace", Path(self.other).read_bytes())
         self.meets("nothing", os.unlink)

@@ -33,7 +33,7 @@ class Words:
         self.said[name] = value
 
     def value_of(self, equals, value):
-        """The value behind an option's `=`, or the next word, unless that begins with a dash and goes on."""
+        """The value after an option's `=`, or the next word, unless that begins with a dash and goes on."""
         if equals:
             return value
         if not self.words or self.words[0].startswith("-") and self.words[0] != "-":

@@ -101,7 +101,7 @@ others text P each (x ∷ xs) all =
     line_join (44 ∷ 32 ∷ text x) (flat_map (λ y. 44 ∷ 32 ∷ text y) xs)
     (line_join (44 ∷ 32 ∷ []) (text x) (record { utf8 = IsUtf8-are_ascii (44 ∷ 32 ∷ []) refl; single = (refl, (refl, tt)) }) (each x all.0)) (others text P each xs all.1)
 
--- the words of an answer behind its label are laid out as the choice's own text
+-- the words of an answer after its label are laid out as the choice's own text
 laid : Directly → (w : WrittenChoice) → ChoiceHasMembers w → laid_out (choice_words w) ≡ texts.choice_text w
 unfolding laid_out
 laid directly ExpandFact some = ap (drop 9) (directly (Answer (97 ∷ []) ExpandFact) some)
@@ -110,16 +110,16 @@ laid directly (DeleteFacts facts) some = ap (drop 9) (directly (Answer (97 ∷ [
 
 -- ---- words that are read
 
-behind_label : (r : Result WrittenChoice Kind) (w : WrittenChoice) → (r >>= (λ c. Ok (Answer (97 ∷ []) c))) ≡ Ok (Answer (97 ∷ []) w) → r ≡ Ok w
-behind_label (Ok c) w e = ap (λ (x : WrittenChoice). Ok x) (same c w e)
+after_label : (r : Result WrittenChoice Kind) (w : WrittenChoice) → (r >>= (λ c. Ok (Answer (97 ∷ []) c))) ≡ Ok (Answer (97 ∷ []) w) → r ≡ Ok w
+after_label (Ok c) w e = ap (λ (x : WrittenChoice). Ok x) (same c w e)
   where
     same : (x y : WrittenChoice) → ◌≡◌ {A = Result Statement Kind} (Ok (Answer (97 ∷ []) x)) (Ok (Answer (97 ∷ []) y)) → x ≡ y
     same x y is = cc
-behind_label (Err k) w e = let f : ⊥ = cc in absurd f
+after_label (Err k) w e = let f : ⊥ = cc in absurd f
 
 choice_again : StatementsAgain → (w : WrittenChoice) → IsWrittenChoice w → choice_at (choice_words w) ≡ Ok w
 unfolding statement_at named_at answer_at name_at
-choice_again again w good = behind_label (choice_at (choice_words w)) w (again Updates 1 (Answer (97 ∷ []) w) (omega arith) good)
+choice_again again w good = after_label (choice_at (choice_words w)) w (again Updates 1 (Answer (97 ∷ []) w) (omega arith) good)
 
 -- ---- choices over the relations of a session
 

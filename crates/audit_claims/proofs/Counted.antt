@@ -25,8 +25,8 @@ joined xs ys = sum_by-append one xs ys
 further : (x : ℕ) (xs : List ℕ) → feeds (x ∷ xs) ≡ one x + feeds xs
 further x xs = sum_by-cons one x xs
 
-behind_feed : (xs : List ℕ) → feeds (10 ∷ xs) ≡ suc (feeds xs)
-behind_feed xs = let e = further 10 xs in omega (arith, e)
+after_feed : (xs : List ℕ) → feeds (10 ∷ xs) ≡ suc (feeds xs)
+after_feed xs = let e = further 10 xs in omega (arith, e)
 
 none_in : (xs : List ℕ) → AllByRecursion (λ b. is_line_feed b ≡ false) xs → feeds xs ≡ 0
 none_in [] none = refl
@@ -66,7 +66,7 @@ feeds_counted n rest low =
     let a = joined (codes "trace ") (decimal n ++ 10 ∷ rest) in
     let b = joined (decimal n) (10 ∷ rest) in
     let word : feeds (codes "trace ") ≡ 0 = refl in
-    omega (arith, a, b, word, digits n low, behind_feed rest)
+    omega (arith, a, b, word, digits n low, after_feed rest)
 
 -- ---- what ends with a line feed is lines
 
@@ -119,9 +119,9 @@ same_last x y xs ys e =
     cc
 
 -- What stands at the end of a text that ends with a line feed is lines.
-pub lines_behind : (head rest front : List ℕ) → head ++ rest ≡ front ++ 10 ∷ [] → Lines rest
-lines_behind head [] front e = record { lines = []; of = record { same = refl; single = tt }; count = refl }
-lines_behind head (b ∷ bs) front e =
+pub lines_at_end : (head rest front : List ℕ) → head ++ rest ≡ front ++ 10 ∷ [] → Lines rest
+lines_at_end head [] front e = record { lines = []; of = record { same = refl; single = tt }; count = refl }
+lines_at_end head (b ∷ bs) front e =
     let l = last_of b bs in
     let whole : (head ++ l.front) ++ l.byte ∷ [] ≡ front ++ 10 ∷ [] = append_assoc head l.front (l.byte ∷ []) ∙ ap (λ t. head ++ t) (sym l.is) ∙ e in
     let feed : l.byte ≡ 10 = same_last l.byte 10 (head ++ l.front) front whole in
@@ -149,7 +149,7 @@ counted_ends n lines =
     let f = feed_last lines in
     (codes "trace " ++ (decimal n ++ f.front), ap (λ t. codes "trace " ++ t) (ap (λ t. decimal n ++ t) f.is ∙ sym (append_assoc (decimal n) f.front (10 ∷ []))))
 
--- The first line, and what stands behind it.
+-- The first line, and what follows it.
 pub counted_apart : (n : ℕ) (rest : List ℕ) → counted n [] ++ rest ≡ counted n rest
 counted_apart n rest = ap (λ t. codes "trace " ++ t) (append_assoc (decimal n) (10 ∷ []) rest)
 

@@ -16,17 +16,17 @@ Unfed bs = AllByRecursion (λ b. is_line_feed b ≡ false) bs
 
 pub record IsCut (xs ys us vs : List ℕ) : Type 0 where
   pub line : xs ≡ ys
-  pub behind : us ≡ vs
+  pub after : us ≡ vs
 
 pub cut_once : (xs ys us vs : List ℕ) → Unfed xs → Unfed ys → xs ++ 10 ∷ us ≡ ys ++ 10 ∷ vs → IsCut xs ys us vs
-cut_once [] [] us vs one other e = record { line = refl; behind = cc }
+cut_once [] [] us vs one other e = record { line = refl; after = cc }
 cut_once [] (y ∷ ys) us vs one other e = let is : 10 ≡ y = cc in absurd (false≢true (sym other.0 ∙ ap is_line_feed (sym is)))
 cut_once (x ∷ xs) [] us vs one other e = let is : x ≡ 10 = cc in absurd (false≢true (sym one.0 ∙ ap is_line_feed is))
 cut_once (x ∷ xs) (y ∷ ys) us vs one other e =
     let head : x ≡ y = cc in
     let rest : xs ++ 10 ∷ us ≡ ys ++ 10 ∷ vs = cc in
     let others = cut_once xs ys us vs one.1 other.1 rest in
-    record { line = λ i. head i ∷ others.line i; behind = others.behind }
+    record { line = λ i. head i ∷ others.line i; after = others.after }
 
 -- ---- no line feed in a number
 
@@ -77,12 +77,12 @@ same_lines (l ∷ ls) [] one other e = absurd (none_left l (ended ls) (sym e))
 same_lines (l ∷ ls) (m ∷ ms) one other e =
     let cut = cut_once l m (ended ls) (ended ms) (recursion_from_All (λ b. is_line_feed b ≡ false) l one.0) (recursion_from_All (λ b. is_line_feed b ≡ false) m other.0)
     (sym (append_assoc l (10 ∷ []) (ended ls)) ∙ e ∙ append_assoc m (10 ∷ []) (ended ms)) in
-    let rest = same_lines ls ms one.1 other.1 cut.behind in
+    let rest = same_lines ls ms one.1 other.1 cut.after in
     λ i. cut.line i ∷ rest i
 
--- A text has one list of lines behind its first.
+-- A text has one list of lines after its first.
 pub one_lines : (text : List ℕ) (ls ms : List (List ℕ)) → HasLines text ls → HasLines text ms → ls ≡ ms
 one_lines text ls ms one other =
     let e = append_assoc (codes "trace ") (decimal (length ls)) (10 ∷ ended ls) ∙ sym one.head ∙ other.head ∙ sym (append_assoc (codes "trace ") (decimal (length ms)) (10 ∷ ended ms)) in
     let cut = cut_once (codes "trace " ++ decimal (length ls)) (codes "trace " ++ decimal (length ms)) (ended ls) (ended ms) (head (length ls)) (head (length ms)) e in
-    same_lines ls ms one.of.single other.of.single cut.behind
+    same_lines ls ms one.of.single other.of.single cut.after

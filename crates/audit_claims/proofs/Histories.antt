@@ -33,7 +33,7 @@ same_parts {A} (x ∷ xs) ys (u ∷ us) vs y v long e =
     let others = same_parts xs ys us vs y v (omega (arith, long)) rest in
     record { front = λ i. head i ∷ others.front i; item = others.item }
 
--- ---- what comes before an event, and behind it
+-- ---- what comes before an event, and after it
 
 module _ (M : Machine) (s : Settings) (S : Session M) where
   record Passes (l m : Log M) (es : List (Event M)) (e : Event M) (fs : List (Event M)) : Type 0 where
@@ -108,10 +108,10 @@ module _ (g : Ground) (plain : EntriesArePlain) where
       → Passes (machine g) g.settings (session_over g) (empty_log (machine g)) m (events H) (event_of (kept x)) (events J) → Grows H x
   grows_at H x J m all p =
       let before = added (machine g) g.settings (session_over g) (empty_log (machine g)) p.middle (events H) p.first in
-      let behind = added (machine g) g.settings (session_over g) (with_entry (machine g) p.middle.entries p.made) m (events J) p.second in
-      let parts = same_parts p.middle.entries behind.0 (entries_over g H) (entries_over g J) p.made.entry (kept x)
+      let later = added (machine g) g.settings (session_over g) (with_entry (machine g) p.middle.entries p.made) m (events J) p.second in
+      let parts = same_parts p.middle.entries later.0 (entries_over g H) (entries_over g J) p.made.entry (kept x)
       (omega (arith, before.2, length-map (entries_over g H) event_of))
-      (sym (append_assoc p.middle.entries (p.made.entry ∷ []) behind.0) ∙ sym behind.1 ∙ all ∙ map_join kept H (x ∷ J)) in
+      (sym (append_assoc p.middle.entries (p.made.entry ∷ []) later.0) ∙ sym later.1 ∙ all ∙ map_join kept H (x ∷ J)) in
       let updates : updates_after g H ≡ p.middle.updates = ap (updates_in (machine g)) p.first in
       let entry : plain_entry g.rules g.budget p.made.entry ≡ x = ap (plain_entry g.rules g.budget) parts.item ∙ plain.plain g.rules g.budget x in
       let allowed : effect_after g H (event_told g (told_by x)) ≡ Some p.made = (λ i. effect (machine g) g.settings (session_over g) (updates i) (sym (event_is x) i)) ∙ p.allowed in

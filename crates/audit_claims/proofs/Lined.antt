@@ -1,4 +1,4 @@
--- The lines of a text, and what stands before and behind one of them.
+-- The lines of a text, and what stands before and after one of them.
 use Rattle.std.specs.Prelude.{◌≡◌, ◌+◌, ◌<◌, ℕ, Bool, true, false, List, [], ◌∷◌, ◌++◌, length, take, drop, if◌then◌else◌}
 use Rattle.std.proofs.Common.{refl, sym, ap, ◌∙◌, arith, get_or}
 use Rattle.std.specs.List.{AllByRecursion, concat}
@@ -9,7 +9,7 @@ use Rattle.std.proofs.lemmas.List.Elements.{recursion_from_All}
 use Rattle.memchr.specs.Find.{Nowhere, Passes, is_byte}
 use Rattle.def_language.specs.Bytes.{is_line_feed}
 use Rattle.lang_reader.proofs.Cut.{before_one, nowhere_one}
-use Rattle.audit_claims.specs.Parts.{bare, before, behind_session, from, is_end, lines_in, onto_first, session_in}
+use Rattle.audit_claims.specs.Parts.{after_session, bare, before, from, is_end, lines_in, onto_first, session_in}
 
 -- ---- a text whose first line feed is known
 
@@ -107,7 +107,7 @@ session_found input p n ahead rest next =
     let one_line : concat (take 1 (from is_end (lines_in input))) ≡ take n (drop p input) = ap (λ ls. concat (take 1 ls)) (sym rest ∙ next) ∙ append-nil (take n (drop p input)) in
     take-add p n input ∙ λ i. ahead i ++ sym one_line i
 
-pub behind_found : (input : List ℕ) (p n : ℕ) → lines_in (drop p input) ≡ from is_end (lines_in input)
-    → lines_in (drop p input) ≡ take n (drop p input) ∷ lines_in (drop n (drop p input)) → drop (p + n) input ≡ behind_session input
-behind_found input p n rest next =
+pub after_found : (input : List ℕ) (p n : ℕ) → lines_in (drop p input) ≡ from is_end (lines_in input)
+    → lines_in (drop p input) ≡ take n (drop p input) ∷ lines_in (drop n (drop p input)) → drop (p + n) input ≡ after_session input
+after_found input p n rest next =
     sym (ap (λ ls. concat (drop 1 ls)) (sym rest ∙ next) ∙ whole (drop n (drop p input)) ∙ drop-drop n p input)

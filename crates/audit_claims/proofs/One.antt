@@ -65,18 +65,18 @@ module _ (one_event : OneEvent) (plain : EntriesArePlain) (t : Trial) where
   record Parted (before : List (List ℕ)) (line : List ℕ) (K : List PlainEntry) : Type 0 where
     front : List PlainEntry
     item : PlainEntry
-    behind : List PlainEntry
-    whole : K ≡ front ++ item ∷ behind
+    back : List PlainEntry
+    whole : K ≡ front ++ item ∷ back
     told : Lines before front
     of : IsLineOf t.relations line item
 
   parted : (before : List (List ℕ)) (line : List ℕ) (rest : List (List ℕ)) (K : List PlainEntry) → Lines (before ++ line ∷ rest) K → Parted before line K
   parted [] line rest [] told = absurd told
-  parted [] line rest (x ∷ K) told = record { front = []; item = x; behind = K; whole = refl; told = tt; of = told.0 }
+  parted [] line rest (x ∷ K) told = record { front = []; item = x; back = K; whole = refl; told = tt; of = told.0 }
   parted (l ∷ before) line rest [] told = absurd told
   parted (l ∷ before) line rest (x ∷ K) told =
       let p = parted before line rest K told.1 in
-      record { front = x ∷ p.front; item = p.item; behind = p.behind; whole = ap (λ J. x ∷ J) p.whole; told = (told.0, p.told); of = p.of }
+      record { front = x ∷ p.front; item = p.item; back = p.back; whole = ap (λ J. x ∷ J) p.whole; told = (told.0, p.told); of = p.of }
 
   -- ---- no line of a history is at fault
 
@@ -97,9 +97,9 @@ module _ (one_event : OneEvent) (plain : EntriesArePlain) (t : Trial) where
       → IsHistory t.over H → Lines before H → IsWrong t H line why → ⊥
   no_fault lines before after line why H K is whole told history front wrong =
       let p = parted before line after K (subst (λ ls. Lines ls K) is told) in
-      let its = grows t.over plain p.front p.item p.behind (subst (λ J. IsHistory t.over J) p.whole whole).legal in
+      let its = grows t.over plain p.front p.item p.back (subst (λ J. IsHistory t.over J) p.whole whole).legal in
       let turn : IsDue t.over p.front (told_by p.item) =
-      whole.first (length p.front) p.item (ap (λ J. slice_get J (length p.front)) p.whole ∙ item_at p.front p.item p.behind) in
+      whole.first (length p.front) p.item (ap (λ J. slice_get J (length p.front)) p.whole ∙ item_at p.front p.item p.back) in
       let same : H ≡ p.front = one_history t.over plain H p.front history.legal its.legal (told_same before H p.front front p.told) in
       not_wrong p.front line p.item why p.of turn its.more (subst (λ J. IsWrong t J line why) same wrong)
 
@@ -124,8 +124,8 @@ module _ (one_event : OneEvent) (plain : EntriesArePlain) (t : Trial) where
   one_why H line Effect Effect a b = refl
 
   one_fault : (lines : List (List ℕ)) (m n : ℕ) (v w : Why) → IsFaultIn t lines m v → IsFaultIn t lines n w → No m v ≡ No n w
-  one_fault lines _ _ _ _ (at H before after line v is history told wrong) (at K others behind other w are second lines_of wrong_too) =
-      by (lies before line after others other behind (sym is ∙ are))
+  one_fault lines _ _ _ _ (at H before after line v is history told wrong) (at K others left other w are second lines_of wrong_too) =
+      by (lies before line after others other left (sym is ∙ are))
     where
       by : Lie before line others other → No (length before + 2) v ≡ No (length others + 2) w
       by (alike front item) =

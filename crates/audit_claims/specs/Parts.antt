@@ -47,8 +47,8 @@ abbrev pub session_in : List ℕ → List ℕ
 session_in input = concat (before is_end (lines_in input)) ++ concat (take 1 (from is_end (lines_in input)))
 
 -- what follows the session
-abbrev pub behind_session : List ℕ → List ℕ
-behind_session input = concat (drop 1 (from is_end (lines_in input)))
+abbrev pub after_session : List ℕ → List ℕ
+after_session input = concat (drop 1 (from is_end (lines_in input)))
 
 -- A text counts as a result text by its first line.
 abbrev pub IsResult : List ℕ → Type 0
@@ -58,5 +58,5 @@ IsResult text = bare text ≡ codes "youtopia result 1"
 abbrev pub result_in : List ℕ → List ℕ
 result_in text = concat (before is_head (lines_in text))
 
-abbrev pub behind_result : List ℕ → List ℕ
-behind_result text = concat (from is_head (lines_in text))
+abbrev pub after_result : List ℕ → List ℕ
+after_result text = concat (from is_head (lines_in text))

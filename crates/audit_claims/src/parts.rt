@@ -3,7 +3,7 @@ ghost use Rattle.std.specs.Prelude.{◌≡◌, ◌<◌, ◌≤◌, ◌∷◌, If
 ghost use Rattle.std.specs.List.{concat};
 ghost use Rattle.lang_forms.specs.Views.{words_of};
 ghost use Rattle.audit_claims.specs.Marks.{passes};
-ghost use Rattle.audit_claims.specs.Parts.{IsResult, are_end, bare, before, behind_result, behind_session, from, is_end, lines_in, result_in, session_in};
+ghost use Rattle.audit_claims.specs.Parts.{IsResult, after_result, after_session, are_end, bare, before, from, is_end, lines_in, result_in, session_in};
 
 use lang_forms::{Word, Words};
 use memchr::memchr;
@@ -12,7 +12,7 @@ use memchr::memchr;
 /// token; without such a line it is the whole input.
 pub fn session_part(input: &[u8]) -> (&[u8], &[u8])
     ensures session { result.0.now ≡ session_in input.now }
-    ensures behind { result.1.now ≡ behind_session input.now }
+    ensures rest { result.1.now ≡ after_session input.now }
 {
     let place = place_of(Mark::End, input);
     if place == input.len() {
@@ -28,7 +28,7 @@ pub fn result_part(text: &[u8]) -> Option<(&[u8], &[u8])>
     ensures none { IfNone result (IsResult text.now → ⊥) }
     ensures some { IfSome result (λ x. IsResult text.now) }
     ensures result { IfSome result (λ x. x.0.now ≡ result_in text.now) }
-    ensures behind { IfSome result (λ x. x.1.now ≡ behind_result text.now) }
+    ensures rest { IfSome result (λ x. x.1.now ≡ after_result text.now) }
 {
     if bare(text) != b"youtopia result 1".as_slice() {
         return None;

@@ -11,8 +11,8 @@ use def_history::cores::entries_are_plain;
 
 /// A text has at most one verdict: it is the trace of one history, or it has one first fault.
 pub fn verdicts_are_one()
-    ensures { (t : Trial) (text : List ℕ) (v w : Verdict) → IsVerdict t text v → IsVerdict t text w →
-        v ≡ w }
+    ensures { (t : Trial) (text : List ℕ) (v w : Verdict) →
+        IsVerdict t text v → IsVerdict t text w → v ≡ w }
 {
     lines_claim_one_event();
     entries_are_plain();

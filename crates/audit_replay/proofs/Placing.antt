@@ -29,7 +29,7 @@ use Rattle.audit_updates.specs.declared.updates.AuditedUpdate.{AuditedUpdate}
 use Rattle.audit_replay.specs.Replays.{HasStandingAt}
 use Rattle.audit_replay.specs.Restarts.{HaveRestarted}
 use Rattle.audit_replay.specs.Steps.{AtPlace, IsAnswered, IsDelivered, IsPlanSomewhere, IsStepMade, IsRemoved, TellsStep, TellsWithdrawal}
-use Rattle.audit_replay.proofs.Restarting.{there_is, put_with, restarted_behind, set_is, set_long, set_there, stands_placed, within}
+use Rattle.audit_replay.proofs.Restarting.{there_is, put_with, restarted_after, set_is, set_long, set_there, stands_placed, within}
 
 -- After the step of a plan the audited updates stand where they stood.
 pub numbers_stepped : (rs : List AuditedUpdate) (k : ℕ) (r v : AuditedUpdate) (plan : Plan) → AreFrom 1 rs → k < length rs → r ≡ get_or rs k r → AtPlace k rs (IsPlanSomewhere plan) → KeepsPlaceBy plan (get_or rs k r) v → AreFrom 1 (set rs k v)
@@ -40,13 +40,13 @@ numbers_stepped rs k r v plan a l e planned keeps =
 pub step_made : (rs rs' : List AuditedUpdate) (k : ℕ) (r v : AuditedUpdate) (plan : Plan) (causes : List CauseOfProgram) → k < length rs → r ≡ get_or rs k r → HasStepped plan (get_or rs k r) v → HaveRestarted (k + 1) causes (set rs k v) rs' → IsStepMade k plan causes rs rs'
 step_made rs rs' k r v plan causes l e steps restarts ms B D q spot is =
     let there : get_or rs k r ≡ q = sym e ∙ same_Some r q (sym (there_is rs k r l e) ∙ spot) in
-    restarted_behind rs rs' k causes q v ms B (stepped (caused_chase ms B) D (update_of ms B q)) spot
+    restarted_after rs rs' k causes q v ms B (stepped (caused_chase ms B) D (update_of ms B q)) spot
     (steps ms B D (subst (λ (p : AuditedUpdate). IsPlanOf ms B D p plan) (sym there) is) ∙ ap (λ (p : AuditedUpdate). stepped (caused_chase ms B) D (update_of ms B p)) there) restarts
 
 pub removal_made : (rs rs' : List AuditedUpdate) (k : ℕ) (r v : AuditedUpdate) (causes : List CauseOfProgram) → k < length rs → r ≡ get_or rs k r → HasWithdrawn (get_or rs k r) v → HaveRestarted (k + 1) causes (set rs k v) rs' → IsRemoved k causes rs rs'
 removal_made rs rs' k r v causes l e removes restarts ms B q spot =
     let there : get_or rs k r ≡ q = sym e ∙ same_Some r q (sym (there_is rs k r l e) ∙ spot) in
-    restarted_behind rs rs' k causes q v ms B (withdrawn_now (caused_chase ms B) (update_of ms B q)) spot (removes ms B ∙ ap (λ (p : AuditedUpdate). withdrawn_now (caused_chase ms B) (update_of ms B p)) there) restarts
+    restarted_after rs rs' k causes q v ms B (withdrawn_now (caused_chase ms B) (update_of ms B q)) spot (removes ms B ∙ ap (λ (p : AuditedUpdate). withdrawn_now (caused_chase ms B) (update_of ms B p)) there) restarts
 
 -- ---- what is told
 

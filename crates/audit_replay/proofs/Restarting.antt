@@ -7,7 +7,7 @@ use Rattle.std.proofs.lemmas.Option.{same_Some, none-some, slice_get-map}
 use Rattle.core_entries.specs.declared.causes.Cause.{Cause as CauseOfProgram}
 use Rattle.def_machine.specs.Machine.{Machine}
 use Rattle.def_machine.specs.Updates.{Update}
-use Rattle.def_machine.specs.Cascade.{anew, has_number, restarted}
+use Rattle.def_machine.specs.Cascade.{begun_again, has_number, restarted}
 use Rattle.def_chase.specs.Mappings.{Rule}
 use Rattle.def_steps.specs.Chase.{caused_chase}
 use Rattle.audit_updates.specs.Updates.{update_of, updates_of, StandsAt, AreFrom}
@@ -108,18 +108,18 @@ more_above (r ∷ rs) (suc k) a = more_above rs k a.1
 pub more_there : (rs : List AuditedUpdate) (k : ℕ) (r : AuditedUpdate) → k < length rs → r ≡ get_or rs k r → AllHaveOneMore (drop k rs) → HasOneMore (get_or rs k r)
 more_there rs k r l e a = subst HasOneMore e (subst AllHaveOneMore (next_left rs k r l e) a).0
 
--- And of those behind it, whatever was put there.
-pub more_behind : (rs : List AuditedUpdate) (k : ℕ) (r v : AuditedUpdate) → k < length rs → r ≡ get_or rs k r → AllHaveOneMore (drop k rs) → AllHaveOneMore (drop (k + 1) (set rs k v))
-more_behind rs k r v l e a =
+-- And of those after it, whatever was put there.
+pub more_after : (rs : List AuditedUpdate) (k : ℕ) (r v : AuditedUpdate) → k < length rs → r ≡ get_or rs k r → AllHaveOneMore (drop k rs) → AllHaveOneMore (drop (k + 1) (set rs k v))
+more_after rs k r v l e a =
     let one : k + 1 ≡ suc k = omega arith in
     subst AllHaveOneMore (ap (λ n. drop n rs) one ∙ sym (dropped_set rs k v)) (subst AllHaveOneMore (next_left rs k r l e) a).1
 
 -- ---- one turn
 
-turn : (M : Machine) (us : List (Update M)) (k n : ℕ) (v : Update M) (ns : List ℕ) (u : Update M) → k < length us → get_or us k u ≡ u → v ≡ (if has_number ns n then anew M n u else u)
+turn : (M : Machine) (us : List (Update M)) (k n : ℕ) (v : Update M) (ns : List ℕ) (u : Update M) → k < length us → get_or us k u ≡ u → v ≡ (if has_number ns n then begun_again M n u else u)
     → take (suc k) (set us k v) ++ restarted M ns (suc n) (drop (suc k) (set us k v)) ≡ take k us ++ restarted M ns n (drop k us)
 turn M [] k n v ns u h e r = absurd (omega (arith, h))
-turn M (x ∷ us) zero n v ns u h e r = λ j. (r ∙ (λ i. if has_number ns n then anew M n (sym e i) else sym e i)) j ∷ restarted M ns (suc n) us
+turn M (x ∷ us) zero n v ns u h e r = λ j. (r ∙ (λ i. if has_number ns n then begun_again M n (sym e i) else sym e i)) j ∷ restarted M ns (suc n) us
 turn M (x ∷ us) (suc k) n v ns u h e r = let l : k < length us = omega (arith, h) in λ j. x ∷ turn M us k n v ns u l e r j
 
 -- What is restarted from the place on, once the audited update there has its say.
@@ -133,7 +133,7 @@ turned ms B rs k r v causes a h e g =
     let l : k < length (updates_of ms B rs) = simp length-map h in
     let q : k + 1 ≡ suc k = omega arith in
     let number : r.program.attempt.number ≡ suc k = (stands_placed rs k r a h e).number in
-    let made : update_of ms B v ≡ (if has_number ns (suc k) then anew M (suc k) u else u) = subst (λ (y : AuditedUpdate). HasRestartedIf causes y v) (sym e) g ms B ∙ ap (λ (n : ℕ). if has_number ns n then anew M n u else u) number in
+    let made : update_of ms B v ≡ (if has_number ns (suc k) then begun_again M (suc k) u else u) = subst (λ (y : AuditedUpdate). HasRestartedIf causes y v) (sym e) g ms B ∙ ap (λ (n : ℕ). if has_number ns n then begun_again M n u else u) number in
     (λ i. take (q i) (map-set (update_of ms B) rs k v i) ++ restarted M ns (suc (q i)) (drop (q i) (map-set (update_of ms B) rs k v i)))
     ∙ turn M (updates_of ms B rs) k (suc k) (update_of ms B v) ns u l (get_or-map (update_of ms B) rs k r u h ∙ ap (update_of ms B) (sym e)) made
 
@@ -151,9 +151,9 @@ all_turned ms B rs k ns all l e = sym (past (updates_of ms B rs) k (simp length-
 -- ---- an event at a place
 
 -- The update at the place is w now, and those above it have restarted that the causes are for.
-pub restarted_behind : (rs rs' : List AuditedUpdate) (k : ℕ) (causes : List CauseOfProgram) (q r' : AuditedUpdate) (ms : List Rule) (B : ℕ) (w : Update (caused_chase ms B)) → slice_get rs k ≡ Some q → update_of ms B r' ≡ w → HaveRestarted (k + 1) causes (set rs k r') rs'
+pub restarted_after : (rs rs' : List AuditedUpdate) (k : ℕ) (causes : List CauseOfProgram) (q r' : AuditedUpdate) (ms : List Rule) (B : ℕ) (w : Update (caused_chase ms B)) → slice_get rs k ≡ Some q → update_of ms B r' ≡ w → HaveRestarted (k + 1) causes (set rs k r') rs'
     → updates_of ms B rs' ≡ take k (updates_of ms B rs) ++ w ∷ restarted (caused_chase ms B) (readers_in causes) (suc (suc k)) (drop (suc k) (updates_of ms B rs))
-restarted_behind rs rs' k causes q r' ms B w spot made restarts =
+restarted_after rs rs' k causes q r' ms B w spot made restarts =
     let us : List (Update (caused_chase ms B)) = updates_of ms B rs in
     let ns = readers_in causes in
     let at_us : slice_get us k ≡ Some (update_of ms B q) = slice_get-map (update_of ms B) rs k ∙ ap (option_map (update_of ms B)) spot in
@@ -177,4 +177,4 @@ above_numbers rs up k r a l e u =
 -- An update that a cause is for begins its next attempt.
 pub restarted_if : (causes : List CauseOfProgram) (r r' : AuditedUpdate) (n : ℕ) (b : Bool) → n ≡ r.program.attempt.number → b ≡ has_number (readers_in causes) n → b ≡ true → HasRestarted r r' → HasRestartedIf causes r r'
 restarted_if causes r r' n b e named t h ms B =
-    h ms B ∙ ap (λ d. if d then anew (caused_chase ms B) r.program.attempt.number (update_of ms B r) else update_of ms B r) (sym t ∙ named ∙ ap (has_number (readers_in causes)) e)
+    h ms B ∙ ap (λ d. if d then begun_again (caused_chase ms B) r.program.attempt.number (update_of ms B r) else update_of ms B r) (sym t ∙ named ∙ ap (has_number (readers_in causes)) e)

@@ -3,10 +3,10 @@ use Rattle.std.specs.Prelude.{ℕ, List, map, Option}
 use Rattle.base_types.specs.Contents.{rules_in}
 use Rattle.base_types.specs.Meanings.{change_of, heading_of}
 use Rattle.chase_query.specs.Meanings.{Read}
-use Rattle.audit_replay.specs.Changes.{ChangeMeant, first_change_behind}
+use Rattle.audit_replay.specs.Changes.{ChangeMeant, first_change_after}
 use Rattle.audit_replay.specs.declared.changes.Reader.{Reader}
 
 -- The first of these reads, after n others, that mentions one of the relations and has another value now.
-abbrev pub changed_behind : ℕ → Reader → List ℕ → List Read → Option ChangeMeant
-changed_behind n r relations rs =
-    first_change_behind n (rules_in r.mappings.now) relations (heading_of r.direction) r.below.now (map change_of r.own.now) rs
+abbrev pub changed_after : ℕ → Reader → List ℕ → List Read → Option ChangeMeant
+changed_after n r relations rs =
+    first_change_after n (rules_in r.mappings.now) relations (heading_of r.direction) r.below.now (map change_of r.own.now) rs

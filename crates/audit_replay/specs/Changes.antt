@@ -54,12 +54,12 @@ abbrev pub changed_at : List Rule → Direction → List Fact → List Write →
 changed_at ms h D own t = record { number = t.0; read = t.1; now = value_now ms h D own t.1 }
 
 -- The first of these reads that passes the test, with its number, if n reads come before them.
-abbrev pub first_behind : (Read → Bool) → ℕ → List Read → Option (ℕ × Read)
-first_behind p n rs = option_map (λ t. (n + t.0, t.1)) (first_that p rs)
+abbrev pub first_after : (Read → Bool) → ℕ → List Read → Option (ℕ × Read)
+first_after p n rs = option_map (λ t. (n + t.0, t.1)) (first_that p rs)
 
 -- The first of these reads, after n others, that mentions one of the relations and has another value over D.
-abbrev pub first_change_behind : ℕ → List Rule → List ℕ → Direction → List Fact → List Write → List Read → Option ChangeMeant
-first_change_behind n ms relations h D own rs = option_map (changed_at ms h D own) (first_behind (is_met_and_changed ms relations h D own) n rs)
+abbrev pub first_change_after : ℕ → List Rule → List ℕ → Direction → List Fact → List Write → List Read → Option ChangeMeant
+first_change_after n ms relations h D own rs = option_map (changed_at ms h D own) (first_after (is_met_and_changed ms relations h D own) n rs)
 
 -- The first read of the log that mentions one of the relations and has another value over D.
 abbrev pub first_change : List Rule → List ℕ → Direction → List Fact → List Write → List Read → Option ChangeMeant

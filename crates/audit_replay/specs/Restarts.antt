@@ -1,7 +1,7 @@
 -- Restarts of the updates that an event aborts.
 use Rattle.std.specs.Prelude.{◌≡◌, ℕ, suc, if◌then◌else◌, List, [], ◌∷◌, ◌++◌, take, drop}
 use Rattle.core_entries.specs.declared.causes.Cause.{Cause as CauseOfProgram}
-use Rattle.def_machine.specs.Cascade.{anew, has_number, restarted}
+use Rattle.def_machine.specs.Cascade.{begun_again, has_number, restarted}
 use Rattle.def_chase.specs.Mappings.{Rule}
 use Rattle.def_steps.specs.Chase.{caused_chase}
 use Rattle.audit_updates.specs.Renewals.{HasOneMore}
@@ -18,7 +18,7 @@ AllHaveOneMore (r ∷ rs) = HasOneMore r × AllHaveOneMore rs
 abbrev pub HasRestartedIf : List CauseOfProgram → AuditedUpdate → AuditedUpdate → Type 0
 HasRestartedIf causes r r' =
     (ms : List Rule) (B : ℕ)
-    → update_of ms B r' ≡ (if has_number (readers_in causes) r.program.attempt.number then anew (caused_chase ms B) r.program.attempt.number (update_of ms B r) else update_of ms B r)
+    → update_of ms B r' ≡ (if has_number (readers_in causes) r.program.attempt.number then begun_again (caused_chase ms B) r.program.attempt.number (update_of ms B r) else update_of ms B r)
 
 -- From place k on the updates are restarted that the causes are for.
 abbrev pub HaveRestarted : ℕ → List CauseOfProgram → List AuditedUpdate → List AuditedUpdate → Type 0

@@ -5,7 +5,7 @@ ghost use Rattle.base_types.specs.Contents.{rules_in};
 ghost use Rattle.base_types.specs.Meanings.{change_of, heading_of};
 ghost use Rattle.chase_query.specs.Meanings.{finds_none as finds_none_def, passing, read_of, reads_in, reads_of, reply_of};
 ghost use Rattle.audit_replay.specs.Changes.{IsFirstChange, change_meant, first_change, value_now as value_now_def};
-ghost use Rattle.audit_replay.specs.Asked.{changed_behind};
+ghost use Rattle.audit_replay.specs.Asked.{changed_after};
 
 use crate::relations::is_met;
 use audit_updates::AuditedUpdate;
@@ -86,7 +86,7 @@ fn changed_by(
 ) -> Result<Option<Change>, Memory>
     requires fits { before + length (reads_of entry.now) < 2 ^ 64 }
     ensures first { IfOk result (λ found. option_map change_meant found ≡
-        changed_behind before reader.now relations.now (reads_of entry.now)) }
+        changed_after before reader.now relations.now (reads_of entry.now)) }
 {
     match entry {
         Logged::Asked(read) => changed_at(alloc, reader, relations, before, read),
@@ -104,7 +104,7 @@ fn changed_in_passage(
 ) -> Result<Option<Change>, Memory>
     requires fits { before + (passage.now.end - passage.now.start) < 2 ^ 64 }
     ensures first { IfOk result (λ found. option_map change_meant found ≡
-        changed_behind before reader.now relations.now
+        changed_after before reader.now relations.now
         (passing passage.now.start (passage.now.end - passage.now.start) passage.now.own)) }
 {
     let mut number = before;
@@ -130,7 +130,7 @@ fn changed_mapping(
 ) -> Result<Option<Change>, Memory>
     requires fits { before + 1 < 2 ^ 64 }
     ensures first { IfOk result (λ found. option_map change_meant found ≡
-        changed_behind before reader.now relations.now (finds_none_def mapping made ∷ [])) }
+        changed_after before reader.now relations.now (finds_none_def mapping made ∷ [])) }
 {
     let read = finds_none(mapping, made);
     let change = changed_at(alloc, reader, relations, before, &read)?;
@@ -147,7 +147,7 @@ fn changed_at(
 ) -> Result<Option<Change>, Memory>
     requires fits { before + 1 < 2 ^ 64 }
     ensures first { IfOk result (λ found. option_map change_meant found ≡
-        changed_behind before reader.now relations.now (read_of read.now ∷ [])) }
+        changed_after before reader.now relations.now (read_of read.now ∷ [])) }
 {
     if !is_met(&read.query, reader.mappings, relations) {
         return Ok(None);

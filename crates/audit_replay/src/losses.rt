@@ -11,7 +11,7 @@ ghost use Rattle.def_chase.specs.Mentions.{mentions as mentions_def};
 ghost use Rattle.audit_updates.specs.Programs.{IsBetween};
 ghost use Rattle.audit_updates.specs.Settings.{deps_of};
 ghost use Rattle.audit_replay.specs.Causes.{AreTold, IsFirstDependent, LeavesBelow, Loses, least_writer, numbered_of};
-ghost use Rattle.audit_replay.specs.Changes.{first_behind, is_read_met};
+ghost use Rattle.audit_replay.specs.Changes.{first_after, is_read_met};
 ghost use Rattle.audit_replay.specs.Relations.{any_of};
 ghost use Rattle.audit_replay.specs.Levels.{RisesFrom, top};
 
@@ -160,7 +160,7 @@ impl<'r> Losses<'r> {
     ) -> Result<Option<Numbered>, Memory>
         requires fits { before + length (reads_of entry.now) < 2 ^ 64 }
         ensures first { IfOk result (λ found. option_map numbered_of found ≡
-            first_behind (is_read_met (rules_in mappings.now) self.now.relations.items) before
+            first_after (is_read_met (rules_in mappings.now) self.now.relations.items) before
             (reads_of entry.now)) }
     {
         match entry {
@@ -179,7 +179,7 @@ impl<'r> Losses<'r> {
     ) -> Result<Option<Numbered>, Memory>
         requires fits { before + (passage.now.end - passage.now.start) < 2 ^ 64 }
         ensures first { IfOk result (λ found. option_map numbered_of found ≡
-            first_behind (is_read_met (rules_in mappings.now) self.now.relations.items) before
+            first_after (is_read_met (rules_in mappings.now) self.now.relations.items) before
             (passing passage.now.start (passage.now.end - passage.now.start) passage.now.own)) }
     {
         let mut number = before;
@@ -205,7 +205,7 @@ impl<'r> Losses<'r> {
     ) -> Result<Option<Numbered>, Memory>
         requires fits { before + 1 < 2 ^ 64 }
         ensures first { IfOk result (λ found. option_map numbered_of found ≡
-            first_behind (is_read_met (rules_in mappings.now) self.now.relations.items) before
+            first_after (is_read_met (rules_in mappings.now) self.now.relations.items) before
             (finds_none_def mapping made ∷ [])) }
     {
         let read = finds_none(mapping, made);
@@ -223,7 +223,7 @@ impl<'r> Losses<'r> {
     ) -> Result<Option<Numbered>, Memory>
         requires fits { before + 1 < 2 ^ 64 }
         ensures first { IfOk result (λ found. option_map numbered_of found ≡
-            first_behind (is_read_met (rules_in mappings.now) self.now.relations.items) before
+            first_after (is_read_met (rules_in mappings.now) self.now.relations.items) before
             (read_of read.now ∷ [])) }
     {
         if !is_met(&read.query, mappings, self.relations.as_slice()) {

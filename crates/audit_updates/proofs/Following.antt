@@ -29,7 +29,7 @@ use Rattle.audit_updates.specs.Programs.{IsPlanOf}
 use Rattle.audit_updates.specs.Updates.{logged, update_of}
 use Rattle.audit_updates.specs.declared.updates.AuditedUpdate.{AuditedUpdate}
 
--- Behind the step the log is that of the step.
+-- After the step the log is that of the step.
 logs : (ms : List Rule) (B : ℕ) (D : List Fact) (r : AuditedUpdate) (plan : Plan) (log : List Logged) → IsPlanOf ms B D r plan → log ≡ r.log.items ++ plan.reads.items
     → map (logged ms B) (reads_in log) ≡ map (logged ms B) (reads_in r.log.items) ++ step_log (caused_chase ms B) r.program.attempt.operation D (map choice_of r.answers.items) r.program.attempt
 logs ms B D r plan log p e =
@@ -72,17 +72,17 @@ drop_none : {A : Type 0} (n : ℕ) → ◌≡◌ {A = List A} (drop n []) []
 drop_none zero = refl
 drop_none (suc n) = refl
 
-behind : (b : Bool) (own more : List Change) (ws : List Write) (n : ℕ) → n ≡ length own → map change_of ws ≡ (if b then [] else own ++ more) → map change_of (drop n ws) ≡ (if b then [] else more)
-behind true own more ws n e h = sym (drop-map change_of n ws) ∙ (ap (drop n) h ∙ drop_none n)
-behind false own more ws n e h = sym (drop-map change_of n ws) ∙ (ap (drop n) h ∙ drop_at own more n (sym e))
+after : (b : Bool) (own more : List Change) (ws : List Write) (n : ℕ) → n ≡ length own → map change_of ws ≡ (if b then [] else own ++ more) → map change_of (drop n ws) ≡ (if b then [] else more)
+after true own more ws n e h = sym (drop-map change_of n ws) ∙ (ap (drop n) h ∙ drop_none n)
+after false own more ws n e h = sym (drop-map change_of n ws) ∙ (ap (drop n) h ∙ drop_at own more n (sym e))
 
-none_behind : (b : Bool) (own more : List Change) (ws : List Write) (n : ℕ) → n ≡ length own → map change_of ws ≡ (if b then [] else own ++ more) → length ws < n → [] ≡ (if b then [] else more)
-none_behind true own more ws n e h l = refl
-none_behind false own more ws n e h l =
+none_after : (b : Bool) (own more : List Change) (ws : List Write) (n : ℕ) → n ≡ length own → map change_of ws ≡ (if b then [] else own ++ more) → length ws < n → [] ≡ (if b then [] else more)
+none_after true own more ws n e h l = refl
+none_after false own more ws n e h l =
     let long : length ws ≡ length own + length more = sym (length-map ws change_of) ∙ (ap length h ∙ length-append own more) in
     absurd (omega (arith, long, e, l))
 
--- Behind the writes that were shown before come those of the step.
+-- After the writes that were shown before come those of the step.
 pub written : (ms : List Rule) (B : ℕ) (D : List Fact) (r : AuditedUpdate) (plan : Plan) (ws vs : List Write) (n : ℕ) → IsPlanOf ms B D r plan → map change_of ws ≡ shown (caused_chase ms B) plan.program.attempt
     → n ≡ length r.program.attempt.own → vs ≡ take (length ws - n) (drop n ws) → map change_of vs ≡ step_writes (caused_chase ms B) D (update_of ms B r)
 written ms B D r plan ws vs n p h e f =
@@ -90,7 +90,7 @@ written ms B D r plan ws vs n p h e f =
     let c = next_answer (caused_chase ms B) (map choice_of r.answers.items) P in
     let m = result_of (answers_over ms D P) (step ms P c) in
     ap (map change_of) (f ∙ take_rest ws n)
-    ∙ behind (hides (option_map ending (outcome_in (next_attempt ms B D P c).phase))) P.own m.writes ws n e (h ∙ ap (λ (t : State). shown (caused_chase ms B) t.attempt) p.program)
+    ∙ after (hides (option_map ending (outcome_in (next_attempt ms B D P c).phase))) P.own m.writes ws n e (h ∙ ap (λ (t : State). shown (caused_chase ms B) t.attempt) p.program)
 
 -- Where fewer are shown than were made before, the step shows none.
 pub unwritten : (ms : List Rule) (B : ℕ) (D : List Fact) (r : AuditedUpdate) (plan : Plan) (ws : List Write) (n : ℕ) → IsPlanOf ms B D r plan → map change_of ws ≡ shown (caused_chase ms B) plan.program.attempt
@@ -99,7 +99,7 @@ unwritten ms B D r plan ws n p h e l =
     let P = r.program.attempt in
     let c = next_answer (caused_chase ms B) (map choice_of r.answers.items) P in
     let m = result_of (answers_over ms D P) (step ms P c) in
-    none_behind (hides (option_map ending (outcome_in (next_attempt ms B D P c).phase))) P.own m.writes ws n e (h ∙ ap (λ (t : State). shown (caused_chase ms B) t.attempt) p.program) l
+    none_after (hides (option_map ending (outcome_in (next_attempt ms B D P c).phase))) P.own m.writes ws n e (h ∙ ap (λ (t : State). shown (caused_chase ms B) t.attempt) p.program) l
 
 -- ---- a log with more room
 

@@ -10,7 +10,7 @@ use Rattle.audit_updates.specs.Updates.{update_of, updates_of, StandsAt, AreFrom
 use Rattle.audit_updates.specs.Standings.{IsOver}
 use Rattle.audit_updates.specs.declared.updates.AuditedUpdate.{AuditedUpdate}
 
--- What is left of audited updates is the audited update at the place, and what is left behind it.
+-- What is left of audited updates is the audited update at the place, and what is left after it.
 left_of : (rs : List AuditedUpdate) (i : ℕ) (r : AuditedUpdate) → i < length rs → r ≡ get_or rs i r → drop i rs ≡ r ∷ drop (i + 1) rs
 left_of rs i r h e = drop_more rs i r h ∙ ap (λ (x : AuditedUpdate). x ∷ drop (i + 1) rs) (sym e)
 
@@ -19,9 +19,9 @@ pub stands_here : (rs : List AuditedUpdate) (i n : ℕ) (r : AuditedUpdate) → 
 stands_here rs i n r h e a =
     let all : AreFrom n (r ∷ drop (i + 1) rs) = subst (AreFrom n) (left_of rs i r h e) a in all.0
 
--- Those behind it stand behind it.
-pub stand_behind : (rs : List AuditedUpdate) (i n m : ℕ) (r : AuditedUpdate) → i < length rs → r ≡ get_or rs i r → m ≡ suc n → AreFrom n (drop i rs) → AreFrom m (drop (i + 1) rs)
-stand_behind rs i n m r h e q a =
+-- Those after it have the numbers that follow.
+pub stand_after : (rs : List AuditedUpdate) (i n m : ℕ) (r : AuditedUpdate) → i < length rs → r ≡ get_or rs i r → m ≡ suc n → AreFrom n (drop i rs) → AreFrom m (drop (i + 1) rs)
+stand_after rs i n m r h e q a =
     let all : AreFrom n (r ∷ drop (i + 1) rs) = subst (AreFrom n) (left_of rs i r h e) a in
     subst (λ (k : ℕ). AreFrom k (drop (i + 1) rs)) (sym q) all.1
 

@@ -17,7 +17,7 @@ impl AuditedUpdate {
         ensures place { OnOk result (KeepsPlace self.old self.new) }
         ensures err { OnErr result (IsSame self.old self.new) }
     {
-        let fresh = self.program.anew(alloc)?;
+        let fresh = self.program.begun_again(alloc)?;
         renew(&mut self.program, fresh);
         self.log.clear();
         Ok(())

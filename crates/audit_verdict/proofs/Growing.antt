@@ -130,9 +130,9 @@ module _ (g : Ground) where
   first_more : (H : List PlainEntry) (x : PlainEntry) → AdmitsFirst g H → IsTurn g (length H) (told_by x) → AdmitsFirst g (H ++ x ∷ [])
   first_more H x first turn k e there = elim (cases_lt k (length H)) [
     | inl before ↦ first k e (sym (pushed_same H (x ∷ []) k before) ∙ there)
-    | inr behind ↦
+    | inr past ↦
         let within : k < length (H ++ x ∷ []) = slice_get_within (H ++ x ∷ []) k e there in
-        let last : k ≡ length H = omega (arith, within, length_more H x, behind) in
+        let last : k ≡ length H = omega (arith, within, length_more H x, past) in
         let is : x ≡ e = same_Some x e (sym (last_is H x) ∙ ap (slice_get (H ++ x ∷ [])) (sym last) ∙ there) in
         subst (λ n. IsTurn g n (told_by e)) (sym last) (subst (λ y. IsTurn g (length H) (told_by y)) is turn)
   ]
@@ -144,8 +144,8 @@ module _ (g : Ground) where
     admitted_more : (stands : Replays g H old) → IsReplayOf g (H ++ x ∷ []) new → length (updates_after g (H ++ x ∷ [])) ≡ length (updates_after g H) + is_admission x
     admitted_more stands after =
         let before = admitted_are law stands.replay.sorted H stands.history.legal in
-        let behind = admitted_are law after.sorted (H ++ x ∷ []) after.left.legal in
-        omega (arith, before, behind, admissions_more H x)
+        let later = admitted_are law after.sorted (H ++ x ∷ []) after.left.legal in
+        omega (arith, before, later, admissions_more H x)
 
     grows_on : (e : Told) → Replays g H old → length g.requests ≤ length H → IsDue g H e → grown g H (event_told g e) ≡ Some (H ++ x ∷ []) → IsReplayOf g (H ++ x ∷ []) new
         → Replays g (H ++ x ∷ []) new

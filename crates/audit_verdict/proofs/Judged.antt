@@ -1,4 +1,4 @@
--- Where the judging stands behind some of the lines.
+-- Where the judging stands after some of the lines.
 use Rattle.std.specs.Prelude.{◌≡◌, ◌+◌, ◌<◌, ◌≤◌, ◌==◌, ℕ, Bool, true, false, List, [], ◌∷◌, ◌++◌, length, Some, None}
 use Rattle.std.proofs.Common.{refl, sym, ap, subst, ◌∙◌, arith, inl, inr}
 use Rattle.std.proofs.lemmas.Bool.Decides.{Decides-eqb}
@@ -17,8 +17,8 @@ use Rattle.audit_verdict.specs.Verdicts.{why_of}
 use Rattle.audit_verdict.specs.declared.verdicts.Why.{Why}
 use Rattle.audit_verdict.proofs.Lined.{ends, goes_on, trace_of}
 
--- Of the lines these are left, and behind the others the replay stands.
-pub record Behind (t : Trial) (lines : List (List ℕ)) (rest : List ℕ) (n : ℕ) (r : Replay) : Type 0 where
+-- Of the lines these are left, and after the others the replay stands.
+pub record AreLeft (t : Trial) (lines : List (List ℕ)) (rest : List ℕ) (n : ℕ) (r : Replay) : Type 0 where
   pub before : List (List ℕ)
   pub after : List (List ℕ)
   pub whole : lines ≡ before ++ after
@@ -26,11 +26,11 @@ pub record Behind (t : Trial) (lines : List (List ℕ)) (rest : List ℕ) (n : �
   pub stands : Stands t before r
   pub count : n ≡ length before
 
-module _ (t : Trial) (lines : List (List ℕ)) (rest : List ℕ) (n : ℕ) (r : Replay) (b : Behind t lines rest n r) (line behind : List ℕ) (is : rest ≡ line ++ 10 ∷ behind) (single : IsOneLine line) where
+module _ (t : Trial) (lines : List (List ℕ)) (rest : List ℕ) (n : ℕ) (r : Replay) (b : AreLeft t lines rest n r) (line more : List ℕ) (is : rest ≡ line ++ 10 ∷ more) (single : IsOneLine line) where
   -- The next line is made.
-  pub goes_behind : (new : Replay) → ((before : List (List ℕ)) → Stands t before r → AfterLine t before line new None) → Behind t lines behind (n + 1) new
-  goes_behind new judged =
-      let next = goes_on rest line behind b.after b.of is single in
+  pub next_made : (new : Replay) → ((before : List (List ℕ)) → Stands t before r → AfterLine t before line new None) → AreLeft t lines more (n + 1) new
+  next_made new judged =
+      let next = goes_on rest line more b.after b.of is single in
       record {
         before = b.before ++ line ∷ [];
         after = next.others;
@@ -43,13 +43,13 @@ module _ (t : Trial) (lines : List (List ℕ)) (rest : List ℕ) (n : ℕ) (r : 
   -- The next line is at fault.
   pub faulty : (new : Replay) (why : Why) → ((before : List (List ℕ)) → Stands t before r → AfterLine t before line new (Some why)) → IsVerdictIn t lines (No (n + 2) (why_of why))
   faulty new why judged =
-      let next = goes_on rest line behind b.after b.of is single in
+      let next = goes_on rest line more b.after b.of is single in
       let wrong = judged b.before b.stands in
       let here : lines ≡ b.before ++ line ∷ next.others = b.whole ∙ ap (λ ls. b.before ++ ls) next.is in
       subst (λ k. IsFaultIn t lines k (why_of why)) (ap (λ k. k + 2) (sym b.count)) (at wrong.0 b.before next.others line (why_of why) here wrong.1 wrong.2 wrong.3)
 
--- All lines are behind.
-pub ended_so : (t : Trial) (lines : List (List ℕ)) (rest : List ℕ) (n : ℕ) (r : Replay) (v : Verdict) → Behind t lines rest n r → IsOneLine rest
+-- No line is left.
+pub ended_so : (t : Trial) (lines : List (List ℕ)) (rest : List ℕ) (n : ℕ) (r : Replay) (v : Verdict) → AreLeft t lines rest n r → IsOneLine rest
     → ((all : List (List ℕ)) → Stands t all r → n ≡ length all → IsVerdictIn t all v) → IsVerdictIn t lines v
 ended_so t lines rest n r v b single told =
     let none : b.after ≡ [] = ends rest b.after b.of single in

@@ -16,21 +16,21 @@ use Rattle.audit_claims.specs.Verdicts.{AreLinesOf, IsLineOf}
 use Rattle.audit_claims.proofs.Cuts.{cut_once}
 
 -- The lines go on with this one.
-pub record GoesOn (lines : List (List ℕ)) (line behind : List ℕ) : Type 0 where
+pub record GoesOn (lines : List (List ℕ)) (line after : List ℕ) : Type 0 where
   pub others : List (List ℕ)
   pub is : lines ≡ line ∷ others
-  pub of : IsOf behind others
+  pub of : IsOf after others
 
-pub goes_on : (text line behind : List ℕ) (lines : List (List ℕ)) → IsOf text lines → text ≡ line ++ 10 ∷ behind → IsOneLine line → GoesOn lines line behind
-goes_on text line behind [] of is one = absurd (nowhere line behind (sym is ∙ of.same))
+pub goes_on : (text line after : List ℕ) (lines : List (List ℕ)) → IsOf text lines → text ≡ line ++ 10 ∷ after → IsOneLine line → GoesOn lines line after
+goes_on text line after [] of is one = absurd (nowhere line after (sym is ∙ of.same))
   where
     nowhere : (xs ys : List ℕ) → xs ++ 10 ∷ ys ≡ [] → ⊥
     nowhere [] ys e = let f : ⊥ = cc in f
     nowhere (x ∷ xs) ys e = let f : ⊥ = cc in f
-goes_on text line behind (l ∷ ls) of is one =
-    let same : l ++ 10 ∷ ended ls ≡ line ++ 10 ∷ behind = sym (append_assoc l (10 ∷ []) (ended ls)) ∙ sym of.same ∙ is in
-    let cut = cut_once l line (ended ls) behind (recursion_from_All (λ b. is_line_feed b ≡ false) l of.single.0) (recursion_from_All (λ b. is_line_feed b ≡ false) line one) same in
-    record { others = ls; is = ap (λ x. x ∷ ls) cut.line; of = record { same = sym cut.behind; single = of.single.1 } }
+goes_on text line after (l ∷ ls) of is one =
+    let same : l ++ 10 ∷ ended ls ≡ line ++ 10 ∷ after = sym (append_assoc l (10 ∷ []) (ended ls)) ∙ sym of.same ∙ is in
+    let cut = cut_once l line (ended ls) after (recursion_from_All (λ b. is_line_feed b ≡ false) l of.single.0) (recursion_from_All (λ b. is_line_feed b ≡ false) line one) same in
+    record { others = ls; is = ap (λ x. x ∷ ls) cut.line; of = record { same = sym cut.after; single = of.single.1 } }
 
 -- Without a line feed there are none.
 pub ends : (text : List ℕ) (lines : List (List ℕ)) → IsOf text lines → IsOneLine text → lines ≡ []

@@ -63,7 +63,7 @@ fn judge(
 {
     let mut entries = 0;
     let mut rest = lines;
-    while let Some((line, behind)) = first_line(rest) {
+    while let Some((line, after)) = first_line(rest) {
         if let Some(why) = fault_in(alloc, replay, schema, line)? {
             return Ok(Verdict::No {
                 line: entries + 2,
@@ -71,7 +71,7 @@ fn judge(
             });
         }
         entries += 1;
-        rest = behind;
+        rest = after;
     }
     Ok(at_the_end(replay, entries))
 }

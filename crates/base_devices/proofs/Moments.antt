@@ -76,7 +76,7 @@ leaves_same t P before k bytes l h i =
 
 leaves_then : (t : Trace) (call : Call) (P : List ℕ → Type 0) → ((bytes : List ℕ) → IsImage (held t) bytes → P bytes) → ((bytes : List ℕ) → IsImage (after (held t) call) bytes → P bytes)
     → LeavesOnly (seen t) (seen (with_next t call)) P
-leaves_then t call P before behind k bytes l h i =
+leaves_then t call P before next k bytes l h i =
     let long : length (t.calls ++ call ∷ []) ≡ length t.calls + 1 = length-append t.calls (call ∷ []) in
     elim (either (length t.calls) k l (omega arith)) [
       | inl low ↦
@@ -84,15 +84,15 @@ leaves_then t call P before behind k bytes l h i =
           before bytes (subst (λ x. IsImage x bytes) (held_before t call k low ∙ ap (held_at t) same ∙ held_now t) i)
       | inr high ↦
           let same : k ≡ length (t.calls ++ call ∷ []) = omega arith in
-          behind bytes (subst (λ x. IsImage x bytes) (ap (held_at (with_next t call)) same ∙ held_last t call) i)
+          next bytes (subst (λ x. IsImage x bytes) (ap (held_at (with_next t call)) same ∙ held_last t call) i)
     ]
 
 pub images : {T : Type 0} (call : Bool → Call) (old new : Trace) (P : List ℕ → Type 0) → ((bytes : List ℕ) → IsImage (held old) bytes → P bytes)
     → ((fault : Bool) (bytes : List ℕ) → IsImage (after (held old) (call fault)) bytes → P bytes)
     → (r : Result T DiskRefusal) → IsMade call old new r → LeavesOnly (seen old) (seen new) P
-images call old new P before behind (Ok x) c = subst (λ t. LeavesOnly (seen old) (seen t) P) (sym c) (leaves_then old (call false) P before (behind false))
-images call old new P before behind (Err Failed) c = subst (λ t. LeavesOnly (seen old) (seen t) P) (sym c) (leaves_then old (call true) P before (behind true))
-images call old new P before behind (Err Memory) c = subst (λ t. LeavesOnly (seen old) (seen t) P) (sym c) (leaves_same old P before)
+images call old new P before next (Ok x) c = subst (λ t. LeavesOnly (seen old) (seen t) P) (sym c) (leaves_then old (call false) P before (next false))
+images call old new P before next (Err Failed) c = subst (λ t. LeavesOnly (seen old) (seen t) P) (sym c) (leaves_then old (call true) P before (next true))
+images call old new P before next (Err Memory) c = subst (λ t. LeavesOnly (seen old) (seen t) P) (sym c) (leaves_same old P before)
 
 -- ---- the bytes after a call
 

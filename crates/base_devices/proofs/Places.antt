@@ -16,10 +16,10 @@ get_take (suc n) [] i l = refl
 get_take (suc n) (x ∷ xs) zero l = refl
 get_take (suc n) (x ∷ xs) (suc i) l = get_take n xs i (omega arith)
 
-pub get_behind : (xs ys : List ℕ) (i j : ℕ) → j ≡ length xs + i → slice_get (xs ++ ys) j ≡ slice_get ys i
-get_behind [] ys i j e = let same : j ≡ i = omega arith in ap (λ k. slice_get ys k) same
-get_behind (x ∷ xs) ys i zero e = absurd (omega arith)
-get_behind (x ∷ xs) ys i (suc j) e = get_behind xs ys i j (omega arith)
+pub get_after : (xs ys : List ℕ) (i j : ℕ) → j ≡ length xs + i → slice_get (xs ++ ys) j ≡ slice_get ys i
+get_after [] ys i j e = let same : j ≡ i = omega arith in ap (λ k. slice_get ys k) same
+get_after (x ∷ xs) ys i zero e = absurd (omega arith)
+get_after (x ∷ xs) ys i (suc j) e = get_after xs ys i j (omega arith)
 
 pub get_drop : (n : ℕ) (xs : List ℕ) (i j : ℕ) → j ≡ n + i → slice_get (drop n xs) i ≡ slice_get xs j
 get_drop zero xs i j e = let same : i ≡ j = omega arith in ap (λ k. slice_get xs k) same
@@ -27,7 +27,7 @@ get_drop (suc n) [] i j e = refl
 get_drop (suc n) (x ∷ xs) i zero e = absurd (omega arith)
 get_drop (suc n) (x ∷ xs) i (suc j) e = get_drop n xs i j (omega arith)
 
--- a place that a range does not cover lies before it or behind it
+-- a place that a range does not cover lies before it or after it
 pub outside : (r : Range) (i : ℕ) → covers r i ≡ false → (i < r.at) ⊎ (r.at + r.count ≤ i)
 outside r i e = by (nat_le r.at i) refl (nat_lt i (r.at + r.count)) refl e
   where
@@ -59,9 +59,9 @@ written_elsewhere at bytes old i l e = elim (outside (range_of at bytes) i e) [
   | inl before ↦
       let within : i < length (take at old) = omega (arith, length-take at old) in
       get_front (take at old) (bytes ++ drop (at + length bytes) old) i within ∙ get_take at old i before
-  | inr behind ↦
+  | inr after ↦
       let long : length (take at old) ≡ at = omega (arith, length-take at old) in
-      get_behind (take at old) (bytes ++ drop (at + length bytes) old) (i - at) i (omega arith)
-      ∙ get_behind bytes (drop (at + length bytes) old) (i - at - length bytes) (i - at) (omega arith)
+      get_after (take at old) (bytes ++ drop (at + length bytes) old) (i - at) i (omega arith)
+      ∙ get_after bytes (drop (at + length bytes) old) (i - at - length bytes) (i - at) (omega arith)
       ∙ get_drop (at + length bytes) old (i - at - length bytes) i (omega arith)
 ]

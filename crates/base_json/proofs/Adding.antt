@@ -57,7 +57,7 @@ pub listed : (line : Typed) (js : List Json) → with_items line (items_of js) �
 listed line [] = refl
 listed line (j ∷ js) = listed (with_json line j) js
 
--- a value on a line that goes on from a text, and a line feed behind it
+-- a value on a line that goes on from a text, and a line feed after it
 pub lined : (text : List ℕ) (line more : Typed) (j : Json) (out ended : List ℕ) → line ≡ record { text = text; ended = false } → more ≡ with_json line j → out ≡ more.text → ended ≡ out ++ 10 ∷ []
     → ended ≡ text ++ (print (json_tokens j) ++ 10 ∷ [])
 lined text line more j out ended begins adds is feed =

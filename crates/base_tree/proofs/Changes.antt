@@ -105,7 +105,7 @@ module _ {K V : Type 0} {R : K → K → Ordering} where
     pub without_right : R k e.0 ≡ Greater → l ++ e ∷ without R k r ≡ without R k d
     without_right h = rw is (sym (filter_both (λ x. not (is_at R k x)) l (e ∷ r) ∙ rw h (ap (λ t. t ++ e ∷ without R k r) (filter_all (λ x. not (is_at R k x)) l (kept R k Greater refl l (past_all o k l e h s.below))))))
 
--- ---- behind a cut
+-- ---- after a cut
 
 module _ {K : Type 0} {R : K → K → Ordering} (p : K → Bool) (rises : (x y : K) → R x y ≡ Less → p x ≡ true → p y ≡ true) where
   pub not_reached : (x y : K) → R x y ≡ Less → p y ≡ false → p x ≡ false

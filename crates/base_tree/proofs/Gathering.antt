@@ -108,9 +108,9 @@ module _ {K V : Type 0} (P : K × V → Type 0) (e : K × V) (r : List (K × V))
   all_before [] a = tt
   all_before (x ∷ l) a = (a.0, all_before l a.1)
 
-  pub all_behind : (l : List (K × V)) → AllByRecursion P (l ++ e ∷ r) → P e × AllByRecursion P r
-  all_behind [] a = a
-  all_behind (x ∷ l) a = all_behind l a.1
+  pub all_after : (l : List (K × V)) → AllByRecursion P (l ++ e ∷ r) → P e × AllByRecursion P r
+  all_after [] a = a
+  all_after (x ∷ l) a = all_after l a.1
 
 module _ {K V : Type 0} {R : K → K → Ordering} (place : K → Ordering) (b : Bounds) {d l : List (K × V)} {e : K × V} {r : List (K × V)} (is : d ≡ l ++ e ∷ r) (s : Sides R l e r) (within : AreWithin b place d) where
   on_parts : AreWithin b place (l ++ e ∷ r)
@@ -120,10 +120,10 @@ module _ {K V : Type 0} {R : K → K → Ordering} (place : K → Ordering) (b :
   within_left = all_before (λ x. KeepsWithin b (place x.0)) e r l on_parts
 
   pub within_here : KeepsWithin b (place e.0)
-  within_here = (all_behind (λ x. KeepsWithin b (place x.0)) e r l on_parts).0
+  within_here = (all_after (λ x. KeepsWithin b (place x.0)) e r l on_parts).0
 
   pub within_right : AreWithin b place r
-  within_right = (all_behind (λ x. KeepsWithin b (place x.0)) e r l on_parts).1
+  within_right = (all_after (λ x. KeepsWithin b (place x.0)) e r l on_parts).1
 
   -- What is below an entry in the zone does not lie past it.
   pub within_below : ((x y : K) → R x y ≡ Less → place x ≡ Greater → place y ≡ Greater) → place e.0 ≡ Equal → (c : Bounds) → c.low ≡ b.low → AreWithin c place l

@@ -24,9 +24,9 @@ module _ {K V : Type 0} (R : K → K → Ordering) (k : K) where
       by Greater f i = ap suc (i f)
 
 module _ {K V : Type 0} {R : K → K → Ordering} (o : IsTotalOrder R) (k : K) where
-  -- Behind an entry past the key there is none at the key.
-  none_behind : (e : K × V) (es : List (K × V)) → IsOrdered R (e ∷ es) → R k e.0 ≡ Less → entry_at R k es ≡ None
-  none_behind e es s h = find_none (is_at R k) es (elsewhere R k Less refl es (before_all o k e es h (sides R [] e es s).above))
+  -- After an entry above the key none is at the key.
+  none_after : (e : K × V) (es : List (K × V)) → IsOrdered R (e ∷ es) → R k e.0 ≡ Less → entry_at R k es ≡ None
+  none_after e es s h = find_none (is_at R k) es (elsewhere R k Less refl es (before_all o k e es h (sides R [] e es s).above))
 
   -- Where the key is there, as many as before.
   pub as_long : (v : V) (es : List (K × V)) {x : K × V} → IsOrdered R es → entry_at R k es ≡ Some x → length (insert_entry R es k v) ≡ length es
@@ -36,7 +36,7 @@ module _ {K V : Type 0} {R : K → K → Ordering} (o : IsTotalOrder R) (k : K) 
     where
       by : (a : Ordering) → R k e.0 ≡ a → cond (is_eq a) (Some e) (entry_at R k es) ≡ Some x → (entry_at R k es ≡ Some x → length (insert_entry R es k v) ≡ length es)
           → length (match_ordering a ((k, v) ∷ e ∷ es) ((e.0, v) ∷ es) (e ∷ insert_entry R es k v)) ≡ length (e ∷ es)
-      by Less q f i = let none : entry_at R k es ≡ None = none_behind e es s q in cc
+      by Less q f i = let none : entry_at R k es ≡ None = none_after e es s q in cc
       by Equal q f i = refl
       by Greater q f i = ap suc (i f)
 
@@ -48,7 +48,7 @@ module _ {K V : Type 0} {R : K → K → Ordering} (o : IsTotalOrder R) (k : K) 
     where
       by : (a : Ordering) → R k e.0 ≡ a → cond (is_eq a) (Some e) (entry_at R k es) ≡ Some x → (entry_at R k es ≡ Some x → suc (length (without R k es)) ≡ length es)
           → suc (length (cond (not (is_eq a)) (e ∷ without R k es) (without R k es))) ≡ length (e ∷ es)
-      by Less q f i = let none : entry_at R k es ≡ None = none_behind e es s q in cc
+      by Less q f i = let none : entry_at R k es ≡ None = none_after e es s q in cc
       by Equal q f i =
           ap (λ t. suc (length t)) (filter_all (λ y. not (is_at R k y)) es (kept R k Less refl es (before_at o k e es q (sides R [] e es s).above)))
       by Greater q f i = ap suc (i f)

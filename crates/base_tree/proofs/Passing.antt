@@ -74,7 +74,7 @@ module _ {K V : Type 0} {R : K → K → Ordering} (o : IsTotalOrder R) (p : K �
           ∙ k h
 
 module _ {K V : Type 0} {R : K → K → Ordering} (p : K → Bool) (rises : (x y : K) → R x y ≡ Less → p x ≡ true → p y ≡ true) {d l : List (K × V)} {e : K × V} {r : List (K × V)} (is : d ≡ l ++ e ∷ r) (s : Sides R l e r) where
-  -- The entry is reached, and so is all behind it.
+  -- The entry is reached, and so are all after it.
   pub reached_left : p e.0 ≡ true → filter (is_reached p) d ≡ filter (is_reached p) l ++ e ∷ r
   reached_left h =
       rw is (filter_both (is_reached p) l (e ∷ r) ∙ rw h (ap (λ t. filter (is_reached p) l ++ e ∷ t) (filter_all (is_reached p) r (all_weaker _ _ (λ x b. rises e.0 x.0 b h) r s.above))))

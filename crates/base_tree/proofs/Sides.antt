@@ -59,10 +59,10 @@ module _ {K V : Type 0} {R : K → K → Ordering} (o : IsTotalOrder R) where
   pub past_all : (k : K) (l : List (K × V)) (e : K × V) → R k e.0 ≡ Greater → AllByRecursion (λ (x : K × V). R x.0 e.0 ≡ Less) l → AllByRecursion (λ (x : K × V). R k x.0 ≡ Greater) l
   past_all k l e h = all_weaker _ _ (λ x b. turned o x.0 k Less (o.trans x.0 e.0 k b (turned o k e.0 Greater h))) l
 
-  -- A key at the entry lies before all behind it.
+  -- A key at the entry lies before all after it.
   pub before_at : (k : K) (e : K × V) (r : List (K × V)) → R k e.0 ≡ Equal → AllByRecursion (λ (x : K × V). R e.0 x.0 ≡ Less) r → AllByRecursion (λ (x : K × V). R k x.0 ≡ Less) r
   before_at k e r h = all_weaker _ _ (λ x b. o.congr k e.0 x.0 h ∙ b) r
 
-  -- A key before the entry lies before all behind it.
+  -- A key before the entry lies before all after it.
   pub before_all : (k : K) (e : K × V) (r : List (K × V)) → R k e.0 ≡ Less → AllByRecursion (λ (x : K × V). R e.0 x.0 ≡ Less) r → AllByRecursion (λ (x : K × V). R k x.0 ≡ Less) r
   before_all k e r h = all_weaker _ _ (λ x b. o.trans k e.0 x.0 h b) r

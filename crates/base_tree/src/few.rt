@@ -50,7 +50,7 @@ impl<'a, T> Few<'a, T> {
     /// Adds an item after the others.
     pub fn push(&mut self, item: &'a T)
         requires room { 1 ≤ self.old.room }
-        ensures behind { self.new ≡ with_first self.old (item.now ∷ []) }
+        ensures added { self.new ≡ with_first self.old (item.now ∷ []) }
     {
         self.items.push(Some(item));
     }

@@ -34,7 +34,8 @@ pub(crate) fn value_over<F: Facts>(
 ) -> Result<Reply, Memory>
     requires forceless { AreForceless writes.enacts (changes_of writes.own.now) }
     ensures value { IfOk result (λ answer. IsValueWith (rules_in mappings.now) (query_of query.now)
-        (F.tuples facts.now) (changes_of writes.entry.own.now) (scope_meant counted) (reply_of answer)) }
+        (F.tuples facts.now) (changes_of writes.entry.own.now) (scope_meant counted)
+        (reply_of answer)) }
 {
     match query {
         Query::Present(tuple) => Ok(presence(tuple, facts)),

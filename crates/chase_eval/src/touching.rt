@@ -94,7 +94,8 @@ fn row(
     relation: u16,
 ) -> Result<Vec<usize>, Memory>
     ensures row { IfOk result
-        (λ row. AreNumbers (side (heading_of direction)) (rules_in mappings.now) relation row.items) }
+        (λ row. AreNumbers (side (heading_of direction)) (rules_in mappings.now) relation
+        row.items) }
 {
     let mut row = Vec::new(alloc);
     for (number, mapping) in mappings.as_slice().iter().enumerate() {

@@ -128,7 +128,8 @@ fn note_read(settled: &mut Settled, read: &LoggedRead)
 // Settles the mappings of the passage.
 fn note_passage(settled: &mut Settled, passage: &Passage)
     ensures noted { settled.new
-        ≡ all_noted settled.old (passing passage.now.start (passage.now.end - passage.now.start) passage.now.own) }
+        ≡ all_noted settled.old
+        (passing passage.now.start (passage.now.end - passage.now.start) passage.now.own) }
 {
     for number in passage.start..passage.end {
         settled.settle(number);

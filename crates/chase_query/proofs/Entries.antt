@@ -5,7 +5,7 @@ use Rattle.std.proofs.lemmas.List.Folds.{list_all-append, list_any-append}
 use Rattle.chase_query.specs.Meanings.{Read, finds_none, passing, reads_in, reads_of}
 use Rattle.chase_query.specs.declared.log.Logged.{Logged}
 
--- The reads of two logs, one behind the other.
+-- The reads of two logs, one after the other.
 pub in_both : (es fs : List Logged) → reads_in (es ++ fs) ≡ reads_in es ++ reads_in fs
 in_both [] fs = refl
 in_both (e ∷ es) fs = ap (λ rs. reads_of e ++ rs) (in_both es fs) ∙ sym (append_assoc (reads_of e) (reads_in es) (reads_in fs))
@@ -14,7 +14,7 @@ in_both (e ∷ es) fs = ap (λ rs. reads_of e ++ rs) (in_both es fs) ∙ sym (ap
 pub with_last : (all es : List Logged) (e : Logged) (rs : List Read) → all ≡ es ++ e ∷ [] → reads_of e ≡ rs → reads_in all ≡ reads_in es ++ rs
 with_last all es e rs h is = ap reads_in h ∙ in_both es (e ∷ []) ∙ ap (λ qs. reads_in es ++ qs) (append-nil (reads_of e) ∙ is)
 
--- Those of the entry here come before those of the entries behind it.
+-- Those of the entry here come before those of the entries after it.
 pub from_here : (es : List Logged) (i : ℕ) (e : Logged) → i < length es → e ≡ get_or es i e → reads_in (drop i es) ≡ reads_of e ++ reads_in (drop (i + 1) es)
 from_here es i e h is =
     ap reads_in (drop-cons es i e h)
@@ -31,7 +31,7 @@ pub all_in : (p : Read → Bool) (es : List Logged) → list_all (list_all p) (m
 all_in p [] = refl
 all_in p (e ∷ es) = ap (λ b. list_all p (reads_of e) && b) (all_in p es) ∙ sym (list_all-append p (reads_of e) (reads_in es))
 
--- The first mapping of a passage, and those behind it.
+-- The first mapping of a passage, and those after it.
 pub passage_from : (n end own : ℕ) → n < end → passing n (end - n) own ≡ finds_none n own ∷ passing (n + 1) (end - (n + 1)) own
 passage_from n end own h =
     let more : end - n ≡ suc (end - (n + 1)) = omega (arith, h) in

@@ -6,9 +6,9 @@ use Rattle.base_types.specs.declared.updates.Write.{Write}
 use Rattle.def_chase.specs.Repository.{Change}
 use mathlib.Core.List.{IsPrefix}
 
-behind : (xs ys : List Change) → drop (length xs) (xs ++ ys) ≡ ys
-behind [] ys = refl
-behind (x ∷ xs) ys = behind xs ys
+dropped : (xs ys : List Change) → drop (length xs) (xs ++ ys) ≡ ys
+dropped [] ys = refl
+dropped (x ∷ xs) ys = dropped xs ys
 
 -- With those that it lacks it has all.
 pub caught_up : (n : ℕ) (first : List Change) (all : List Write) → n ≡ length first → IsPrefix first (map change_of all) → first ++ map change_of (take (length all - n) (drop n all)) ≡ map change_of all
@@ -17,5 +17,5 @@ caught_up n first all e h =
     ∙ ap (λ cs. first ++ cs) (sym (drop-map change_of n all))
     ∙ ap (λ k. first ++ drop k (map change_of all)) e
     ∙ ap (λ cs. first ++ drop (length first) cs) (sym h.1)
-    ∙ ap (λ cs. first ++ cs) (behind first h.0)
+    ∙ ap (λ cs. first ++ cs) (dropped first h.0)
     ∙ h.1

@@ -34,7 +34,8 @@ pub(crate) fn answered(
     ensures value { IfOk result (λ turn. IfSome turn
         (HasGoneOnAs mappings.now fresh (operation_of operation.now) (reading_of reading.now)
         (reply_of answer.now))) }
-    ensures turn { IfOk result (λ turn. IfSome turn (IsTurnOf (begun_in (reading_of reading.now)))) }
+    ensures turn { IfOk result
+        (λ turn. IfSome turn (IsTurnOf (begun_in (reading_of reading.now)))) }
     ensures writing { IfOk result (λ turn. IfNone turn (reading.now.row ≡ Row.Writing)) }
 {
     let turn = match &reading.row {

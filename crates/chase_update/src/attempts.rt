@@ -125,7 +125,7 @@ impl Attempt {
             Point::Start => Want::NextStep,
             Point::Look => Want::NextStep,
             Point::Repair(repair) => want_of_repair(repair),
-            Point::Ended(end) => Want::Ended(end.told()),
+            Point::Ended(end) => Want::Ended(end.outer()),
             Point::Reading(reading) => Want::Read(&reading.query),
         }
     }

@@ -36,8 +36,8 @@ pub(crate) enum End {
 
 impl End {
     /// The end as people see it: without the attempt of the null.
-    pub(crate) fn told(self) -> Outcome
-        ensures told { end_of result ≡ end_in (outcome_of self) }
+    pub(crate) fn outer(self) -> Outcome
+        ensures outer { end_of result ≡ end_in (outcome_of self) }
     {
         match self {
             End::Done => Outcome::Done,

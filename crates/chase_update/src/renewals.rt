@@ -15,7 +15,7 @@ impl Attempt {
     }
 
     /// The next attempt at the same update, at its start.
-    pub fn anew(&self, alloc: Global) -> Result<Attempt, Memory>
+    pub fn begun_again(&self, alloc: Global) -> Result<Attempt, Memory>
         requires more { self.now.attempt.attempt + 1 < 2 ^ 32 }
         ensures begun { IfOk result
             (λ made. made ≡ record {

@@ -102,7 +102,7 @@ fn end_of_passage(from: u16, marks: &[bool], mappings: &Mappings<'_>) -> u16
 // Whether the place comes before `last`, has a mark, and the mapping after it is in force from the start.
 fn leads_on(place: usize, last: usize, marks: &[bool], all: &[Mapping]) -> bool
     requires marked { last ≤ length marks.now }
-    requires behind { last ≤ length all.now - 1 }
+    requires followed { last ≤ length all.now - 1 }
     ensures mark { result ≡ true → slice_index_or marks.now place false ≡ true }
     ensures next { result ≡ true → (number : ℕ) →
         AsksNext (map rule_of all.now) number (place + 1) (place + 1) }

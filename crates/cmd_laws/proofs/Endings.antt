@@ -23,7 +23,7 @@ use Rattle.cmd_laws.proofs.Results.{free, laid_free}
 
 -- ---- the lines between line feeds, and those with them
 
--- what is left behind the last line feed, where that is the last byte
+-- what is left after the last line feed, where that is the last byte
 abbrev tail : List ℕ → List (List ℕ)
 tail text = if is_fed text then [] ∷ [] else []
 
@@ -81,9 +81,9 @@ ends (k ∷ ls) l rest sts (st ∷ after) e others h (says w say) = at sts e oth
     at [] f good next = let none : after ≡ [] = cc in absurd (no_end ls l rest (subst (λ us. Say (map bare (ls ++ l ∷ []) ++ rest) us) none say) h)
     at (t ∷ ts) f good next =
         let same : st ≡ t = cc in
-        let behind : after ≡ ts ++ End ∷ [] = cc in
+        let left : after ≡ ts ++ End ∷ [] = cc in
         let off : is_end k ≡ false = ap are_end w ∙ subst (λ (x : Statement). are_end (Ok (statement_words x)) ≡ false) (sym same) good.0 in
-        rw off (next ts behind good.1)
+        rw off (next ts left good.1)
 
 -- ---- the printed form
 

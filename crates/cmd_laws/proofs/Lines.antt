@@ -1,11 +1,11 @@
--- The lines of a text behind another one, and where a session and a result text end among them.
+-- The lines of a text after another one, and where a session and a result text end among them.
 use Rattle.std.specs.Prelude.{◌≡◌, ℕ, Bool, true, false, List, [], ◌∷◌, ◌++◌, map, flat_map, take, drop, slice_get, is_some, if◌then◌else◌}
 use Rattle.std.proofs.Common.{refl, sym, ap, ◌∙◌, append_assoc, append-nil}
 use Rattle.std.specs.List.{AllByRecursion, concat}
 use Rattle.std.proofs.lemmas.Bool.{false≢true}
 use Rattle.std.proofs.lemmas.List.Concat.{flat_map-cons}
 use Rattle.def_language.specs.Bytes.{is_line_feed}
-use Rattle.audit_claims.specs.Parts.{bare, before, behind_session, from, is_end, lines_in, onto_first, session_in}
+use Rattle.audit_claims.specs.Parts.{after_session, bare, before, from, is_end, lines_in, onto_first, session_in}
 use Rattle.audit_claims.proofs.Lined.{whole}
 use Rattle.audit_claims.proofs.Cuts.{Unfed}
 use Rattle.cmd_laws.specs.Circle.{IsClosed}
@@ -17,10 +17,10 @@ is_fed [] = true
 is_fed (x ∷ []) = is_line_feed x
 is_fed (x ∷ y ∷ xs) = is_fed (y ∷ xs)
 
-fed_behind : (xs : List ℕ) → is_fed (xs ++ 10 ∷ []) ≡ true
-fed_behind [] = refl
-fed_behind (x ∷ []) = refl
-fed_behind (x ∷ y ∷ xs) = fed_behind (y ∷ xs)
+fed_at_end : (xs : List ℕ) → is_fed (xs ++ 10 ∷ []) ≡ true
+fed_at_end [] = refl
+fed_at_end (x ∷ []) = refl
+fed_at_end (x ∷ y ∷ xs) = fed_at_end (y ∷ xs)
 
 pub has_line : (x : ℕ) (xs : List ℕ) → is_some (slice_get (lines_in (x ∷ xs)) 0) ≡ true
 has_line x xs = by (is_line_feed x)
@@ -60,7 +60,7 @@ module _ (test : List ℕ → Bool) where
       by true e = refl
       by false e = append_assoc l (concat (before test ls)) (concat (from test ls)) ∙ ap (λ t. l ++ t) e
 
-  -- lines behind one that passes
+  -- lines after one that passes
   from_join : (ls ms : List (List ℕ)) → is_some (slice_get (from test ls) 0) ≡ true → from test (ls ++ ms) ≡ from test ls ++ ms
   from_join [] ms some = absurd (false≢true some)
   from_join (l ∷ ls) ms some = by (test l) some (from_join ls ms)
@@ -82,13 +82,13 @@ module _ (test : List ℕ → Bool) where
       by false e rest = ap (λ k. l ∷ k) (rest e)
 
   -- lines before one that passes
-  pub from_behind : (ls ms : List (List ℕ)) → AllByRecursion (λ l. test l ≡ false) ls → from test (ls ++ ms) ≡ from test ms
-  from_behind [] ms none = refl
-  from_behind (l ∷ ls) ms none = rw none.0 (from_behind ls ms none.1)
+  pub from_after : (ls ms : List (List ℕ)) → AllByRecursion (λ l. test l ≡ false) ls → from test (ls ++ ms) ≡ from test ms
+  from_after [] ms none = refl
+  from_after (l ∷ ls) ms none = rw none.0 (from_after ls ms none.1)
 
-  pub before_behind : (ls ms : List (List ℕ)) → AllByRecursion (λ l. test l ≡ false) ls → before test (ls ++ ms) ≡ ls ++ before test ms
-  before_behind [] ms none = refl
-  before_behind (l ∷ ls) ms none = rw none.0 (ap (λ k. l ∷ k) (before_behind ls ms none.1))
+  pub before_after : (ls ms : List (List ℕ)) → AllByRecursion (λ l. test l ≡ false) ls → before test (ls ++ ms) ≡ ls ++ before test ms
+  before_after [] ms none = refl
+  before_after (l ∷ ls) ms none = rw none.0 (ap (λ k. l ∷ k) (before_after ls ms none.1))
 
 -- ---- a session that ends with the line feed of its `end`
 
@@ -100,7 +100,7 @@ module _ (input rest : List ℕ) (closed : IsClosed input) where
       ∙ sym (append_assoc (concat (before is_end (lines_in input))) closed.line (10 ∷ []))
 
   fed : is_fed input ≡ true
-  fed = ap is_fed parted ∙ fed_behind (concat (before is_end (lines_in input)) ++ closed.line)
+  fed = ap is_fed parted ∙ fed_at_end (concat (before is_end (lines_in input)) ++ closed.line)
 
   joined : lines_in (input ++ rest) ≡ lines_in input ++ lines_in rest
   joined = lines_join input rest fed
@@ -117,8 +117,8 @@ module _ (input rest : List ℕ) (closed : IsClosed input) where
       ∙ ap (λ ls. concat (before is_end (lines_in input)) ++ concat ls) (sym closed.last)
       ∙ parts_join is_end (lines_in input) ∙ whole input
 
-  pub behind_is : behind_session (input ++ rest) ≡ rest
-  behind_is = ap (λ ls. concat (drop 1 ls)) onward ∙ whole rest
+  pub after_is : after_session (input ++ rest) ≡ rest
+  after_is = ap (λ ls. concat (drop 1 ls)) onward ∙ whole rest
 
 -- ---- lines one by one
 

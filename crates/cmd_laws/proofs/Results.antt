@@ -8,7 +8,7 @@ use Rattle.std.proofs.lemmas.Bool.{and_parts}
 use Rattle.std.proofs.lemmas.Bool.Decides.{nat_tests}
 use Rattle.std.proofs.lemmas.List.Concat.{flat_map-cons}
 use Rattle.def_language.specs.Bytes.{begins_name, continues_name, is_line_feed}
-use Rattle.audit_claims.specs.Parts.{IsResult, bare, before, behind_result, from, is_head, lines_in, result_in}
+use Rattle.audit_claims.specs.Parts.{IsResult, after_result, bare, before, from, is_head, lines_in, result_in}
 use Rattle.audit_claims.proofs.Lined.{whole}
 use Rattle.chase_question.specs.Inquiries.{Inquiry, PositiveInquiry, NegativeInquiry}
 use Rattle.def_language.specs.Grammar.{one_word, separated, value_word}
@@ -28,7 +28,7 @@ use Rattle.chase_update.specs.Wishes.{End, IsDone, IsSpent, IsRefused}
 use Rattle.lang_report.specs.Results.{committed_words, end_words, finish_lines, finish_words, lack_name, lines_text, no_update, question_lines, repository_lines, result_lines, result_text, stop_lines_in, title_words, tuple_words, update_words}
 use Rattle.audit_trace.specs.Traces.{entry_line, trace_text}
 use Rattle.audit_claims.proofs.Cuts.{Unfed, digits_unfed, joined}
-use Rattle.cmd_laws.proofs.Lines.{bare_cut, before_behind, from_behind, line_cut, lines_are, text_is}
+use Rattle.cmd_laws.proofs.Lines.{bare_cut, before_after, from_after, line_cut, lines_are, text_is}
 
 -- ---- words without a line feed
 
@@ -114,15 +114,15 @@ solid : (n : List ℕ) → is_name n ≡ true → IsSolid n
 solid [] e = tt
 solid (b ∷ n) e = let p = and_parts (begins_name b) (list_all continues_name n) e in (begins_solid b p.0, rest_solid n p.1)
 
-named : (behind names : List Name) (r : ℕ) → AreNew behind names → IsSolid (name_of names r)
-named behind [] r new = tt
-named behind (n ∷ names) zero new = solid n new.0
-named behind (n ∷ names) (suc r) new = named (behind ++ n ∷ []) names r new.2
+named : (earlier names : List Name) (r : ℕ) → AreNew earlier names → IsSolid (name_of names r)
+named earlier [] r new = tt
+named earlier (n ∷ names) zero new = solid n new.0
+named earlier (n ∷ names) (suc r) new = named (earlier ++ n ∷ []) names r new.2
 
-label : (behind : List Name) (us : List SessionUpdate) (i : ℕ) → AreNew behind (labels us) → Unfed (slice_index_or us i no_update).label
-label behind [] i new = tt
-label behind (u ∷ us) zero new = unfed u.label (solid u.label new.0)
-label behind (u ∷ us) (suc i) new = label (behind ++ u.label ∷ []) us i new.2
+label : (earlier : List Name) (us : List SessionUpdate) (i : ℕ) → AreNew earlier (labels us) → Unfed (slice_index_or us i no_update).label
+label earlier [] i new = tt
+label earlier (u ∷ us) zero new = unfed u.label (solid u.label new.0)
+label earlier (u ∷ us) (suc i) new = label (earlier ++ u.label ∷ []) us i new.2
 
 curator : (rs : List RelationSchema) (n : ℕ) (us : List SessionUpdate) (i : ℕ) → AreUpdates rs n us → Unfed (slice_index_or us i no_update).curator
 curator rs n [] i all = tt
@@ -262,7 +262,7 @@ module _ (s : SessionData) (v : IsSession s) where
         (all_join IsOther (repository_lines s.relations r.repository) (committed_words r.finishes s.updates ∷ []) (repository_all r.repository) (committed_line r.finishes, tt))),
   )
 
-  -- ---- a result text with a trace behind it
+  -- ---- a result text with a trace after it
 
   abbrev line : List Word → List ℕ
   line ws = laid_out ws ++ 10 ∷ []
@@ -293,13 +293,13 @@ module _ (s : SessionData) (v : IsSession s) where
     pub result_is : result_in (result_text s r ++ trace_text s.relations H) ≡ result_text s r
     result_is =
         ap (λ ls. concat (before is_head ls)) lines
-        ∙ ap concat (before_behind is_head (map line (result_lines s r)) (lines_in (trace_text s.relations H)) (all_others (result_lines s r) (result_all r)))
+        ∙ ap concat (before_after is_head (map line (result_lines s r)) (lines_in (trace_text s.relations H)) (all_others (result_lines s r) (result_all r)))
         ∙ ap (λ ls. concat (map line (result_lines s r) ++ ls)) none_before ∙ ap concat (append-nil (map line (result_lines s r))) ∙ text_is laid_out (result_lines s r)
 
-    pub trace_is : behind_result (result_text s r ++ trace_text s.relations H) ≡ trace_text s.relations H
+    pub trace_is : after_result (result_text s r ++ trace_text s.relations H) ≡ trace_text s.relations H
     trace_is =
         ap (λ ls. concat (from is_head ls)) lines
-        ∙ ap concat (from_behind is_head (map line (result_lines s r)) (lines_in (trace_text s.relations H)) (all_others (result_lines s r) (result_all r)))
+        ∙ ap concat (from_after is_head (map line (result_lines s r)) (lines_in (trace_text s.relations H)) (all_others (result_lines s r) (result_all r)))
         ∙ ap concat all_from ∙ whole (trace_text s.relations H)
 
     pub known : IsResult (result_text s r ++ trace_text s.relations H)

@@ -22,7 +22,7 @@ move_at [] k e all h = absurd (none_some e h)
 move_at (x ∷ ms) zero e all h = subst (λ (y : PlainEntry). is_move y ≡ true) (some_same x e h) (and_parts (is_move x) (list_all is_move ms) all).0
 move_at (x ∷ ms) (suc k) e all h = move_at ms k e (and_parts (is_move x) (list_all is_move ms) all).1 h
 
--- An entry is one of the admissions, in order, or stands behind them.
+-- An entry is one of the admissions, in order, or stands after them.
 part_at : (m n k : ℕ) (ms : List PlainEntry) (e : PlainEntry) → list_all is_move ms ≡ true → slice_get (admissions_from (suc m) n ++ ms) k ≡ Some e
     → ((k < n) × (e ≡ WasAdmitted (suc (m + k)))) ⊎ ((n ≤ k) × (is_move e ≡ true))
 part_at m zero k ms e all h = inr (omega arith, move_at ms k e all h)

@@ -2,7 +2,7 @@
 use Rattle.std.specs.Prelude.{◌≡◌, ℕ, List, Option, Some, None, Result, Ok, Err}
 use Rattle.std.proofs.Common.{sym, ap, ◌∙◌, inl, inr}
 use Rattle.cmd_plain.specs.Audited.{IsAudited, IsAuditedUnless, IsJudged, audited, auditing, verdict_output}
-use Rattle.audit_claims.specs.Parts.{behind_result, behind_session, session_in}
+use Rattle.audit_claims.specs.Parts.{after_result, after_session, session_in}
 use Rattle.cmd_frame.specs.Outputs.{OutputView}
 use Rattle.cmd_plain.specs.Commands.{MadeOf}
 use Rattle.def_language.specs.Faults.{Wrong}
@@ -25,7 +25,7 @@ module _ (one : OneVerdict) (budget : ℕ) (c : Settings) where
   one_audited s rest x y (inl (alone, a)) (inr (inl (own, b))) = absurd (alone own.0)
   one_audited s rest x y (inl (alone, a)) (inr (inr (other, b))) = absurd (alone other.0)
   one_audited s rest x y (inr (inl (own, a))) (inl (alone, b)) = absurd (alone own.0)
-  one_audited s rest x y (inr (inl (own, a))) (inr (inl (owned, b))) = one_judged s (behind_result rest) x y a b
+  one_audited s rest x y (inr (inl (own, a))) (inr (inl (owned, b))) = one_judged s (after_result rest) x y a b
   one_audited s rest x y (inr (inl (own, a))) (inr (inr (other, b))) = absurd (other.1 own.1)
   one_audited s rest x y (inr (inr (other, a))) (inl (alone, b)) = absurd (alone other.0)
   one_audited s rest x y (inr (inr (other, a))) (inr (inl (own, b))) = absurd (other.1 own.1)
@@ -41,4 +41,4 @@ module _ (one : OneVerdict) (budget : ℕ) (c : Settings) where
   one_made rest (Err wrong) x y a b = a ∙ sym b
 
   pub one_output : (input : List ℕ) (x y : OutputView) → audited budget c input x → audited budget c input y → x ≡ y
-  one_output input x y a b = one_made (behind_session input) (read (session_in input)) x y a b
+  one_output input x y a b = one_made (after_session input) (read (session_in input)) x y a b

@@ -1,6 +1,6 @@
 -- What the command `audit` makes of its input: a session, perhaps the result text of its run, and a trace.
 use Rattle.std.specs.Prelude.{◌≡◌, ◌⊎◌, ℕ, List, [], ◌∷◌, ◌++◌, Option, Some, None, codes}
-use Rattle.audit_claims.specs.Parts.{IsResult, behind_result, behind_session, result_in, session_in}
+use Rattle.audit_claims.specs.Parts.{IsResult, after_result, after_session, result_in, session_in}
 use Rattle.cmd_frame.specs.Outputs.{Meaning, OutputView, Text, Refused}
 use Rattle.cmd_frame.specs.declared.outputs.Ending.{Ending}
 use Rattle.cmd_frame.specs.declared.outputs.Ending.TheVariants.{Ended, Refuted}
@@ -46,7 +46,7 @@ no_result = Text Refuted (codes "no result\n")
 abbrev pub IsAudited : ℕ → Settings → SessionData → List ℕ → OutputView → Type 0
 IsAudited budget c s rest output =
     ((IsResult rest → ⊥) × IsJudged budget c s rest output)
-    ⊎ ((HasOwnResult budget s rest × IsJudged budget c s (behind_result rest) output)
+    ⊎ ((HasOwnResult budget s rest × IsJudged budget c s (after_result rest) output)
     ⊎ (HasOtherResult budget s rest × (output ≡ no_result)))
 
 -- The output, or the refusal if the base violates a mapping.
@@ -61,4 +61,4 @@ auditing budget c rest s output = IsAuditedUnless (base_violation s) budget c s 
 -- `audit`, with `budget` steps for each attempt and these settings: the session at the front of the input is read, and what
 -- follows it is judged
 abbrev pub audited : ℕ → Settings → Meaning
-audited budget c input output = MadeOf (auditing budget c (behind_session input)) (read (session_in input)) output
+audited budget c input output = MadeOf (auditing budget c (after_session input)) (read (session_in input)) output

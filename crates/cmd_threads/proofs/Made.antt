@@ -16,11 +16,11 @@ pub printed : (trace : Bool) (r : Run) (s : SessionData) (told : ResultTold) (te
     → entries ≡ r.history → e ≡ ending_by told.stop → RunsTo trace r.budget r.settings s (Text e whole)
 printed trace r s told text whole entries e same run is_told is_text is_whole is_history is_ending =
     let all : told ≡ serial_told r.budget s = is_told ∙ ap (serial_told r.budget) same in
-    let behind : text ++ trace_part trace s.relations entries ≡ run_text trace r.budget s r.history =
+    let joined : text ++ trace_part trace s.relations entries ≡ run_text trace r.budget s r.history =
     ap₂ (λ (a b : List ℕ). a ++ b) (is_text ∙ ap (result_text s) all) (ap (trace_part trace s.relations) is_history) in (
       r.history,
       subst (λ (x : SessionData). IsRunOf x r.budget r.settings r.history) same run,
-      ap₂ (λ (x : Ending) (l : List ℕ). Text x l) (is_ending ∙ ap (λ (x : ResultTold). ending_by x.stop) all) (is_whole ∙ behind),
+      ap₂ (λ (x : Ending) (l : List ℕ). Text x l) (is_ending ∙ ap (λ (x : ResultTold). ending_by x.stop) all) (is_whole ∙ joined),
     )
 
 -- the budget and the settings of the run are those that were asked for

@@ -4,7 +4,7 @@ use Rattle.std.specs.Prelude.{if◌then◌else◌}
 use Rattle.std.specs.List.{list_any}
 use Rattle.std.specs.Option.{option_map}
 use Rattle.core_conflict.specs.Changes.{Numbered, first_from}
-use Rattle.core_conflict.proofs.Firsts.{first_among, first_behind}
+use Rattle.core_conflict.proofs.Firsts.{first_after, first_among}
 use Rattle.def_machine.specs.Cascade.{reads_of, writer_for}
 use Rattle.def_machine.specs.Reads.{first_that}
 use Rattle.def_machine.specs.Updates.{Read as ReadOfHistory}
@@ -68,9 +68,9 @@ module _ (ms : List Rule) (B : ℕ) where
 pub found_among : (p : Read → Bool) (n : ℕ) (rs qs : List Read) (all o : Option Numbered) (x : Numbered) → all ≡ first_from p n (rs ++ qs) → o ≡ first_from p n rs → o ≡ Some x → Some x ≡ all
 found_among p n rs qs all o x e f i = sym (e ∙ first_among p n rs qs x (sym f ∙ i))
 
--- Where there is none it is that of those behind them.
+-- Where there is none it is that of those after them.
 pub none_among : (p : Read → Bool) (n m : ℕ) (rs qs : List Read) (all o : Option Numbered) → all ≡ first_from p n (rs ++ qs) → o ≡ first_from p n rs → o ≡ None → m ≡ n + length rs → all ≡ first_from p m qs
-none_among p n m rs qs all o e f i j = e ∙ first_behind p n rs qs (sym f ∙ i) ∙ ap (λ k. first_from p k qs) (sym j)
+none_among p n m rs qs all o e f i j = e ∙ first_after p n rs qs (sym f ∙ i) ∙ ap (λ k. first_from p k qs) (sym j)
 
 -- One read alone, by the test.
 pub one_by : (p : Read → Bool) (n : ℕ) (r : Read) (b : Bool) → p r ≡ b → (if b then Some (record { number = n; read = r }) else None) ≡ first_from p n (r ∷ [])

@@ -54,7 +54,7 @@ pub padded_put : (k : ℕ) (xs ys : List (Option CauseOfProgram)) (x : Option Ca
 padded_put k xs ys x l e = padded_full (suc k) ys (put_long k xs ys x l e) ∙ e
 
 module _ (ms : List Rule) (B : ℕ) where
-  -- Those behind the last that was found have none either way.
+  -- Those after the last that was found have none either way.
   rest_none : (n : ℕ) (rs : List QueuedUpdate) → n ≤ length rs → all_found ms B (nones n) ++ map (no_cause ms B) (drop n rs) ≡ map (no_cause ms B) rs
   rest_none zero rs l = refl
   rest_none (suc n) [] l = absurd (omega (arith, l))

@@ -33,12 +33,12 @@ module _ (p : Read → Bool) where
       by true next h = h
       by false next h = next h
 
-  -- Where it is not among the first it is the first of those behind them.
-  pub first_behind : (n : ℕ) (rs qs : List Read) → first_from p n rs ≡ None → first_from p n (rs ++ qs) ≡ first_from p (n + length rs) qs
-  first_behind n [] qs e =
+  -- Where it is not among the first it is the first of those after them.
+  pub first_after : (n : ℕ) (rs qs : List Read) → first_from p n rs ≡ None → first_from p n (rs ++ qs) ≡ first_from p (n + length rs) qs
+  first_after n [] qs e =
       let same : n ≡ n + 0 = omega arith in
       ap (λ k. first_from p k qs) same
-  first_behind n (r ∷ rs) qs e = by (p r) (first_behind (suc n) rs qs) e
+  first_after n (r ∷ rs) qs e = by (p r) (first_after (suc n) rs qs) e
     where
       by : (b : Bool) → (first_from p (suc n) rs ≡ None → first_from p (suc n) (rs ++ qs) ≡ first_from p (suc n + length rs) qs)
           → (if b then Some (record { number = n; read = r }) else first_from p (suc n) rs) ≡ None
@@ -61,13 +61,13 @@ module _ (ms : List Rule) (h : Direction) (D : List Fact) (own : List Change) (g
       by None k l = absurd (none_is_some x l)
       by (Some y) k l = sym (e ∙ ap (option_map with_now) (first_among (is_met_and_changed ms h D own g ts) n rs qs y k) ∙ l)
 
-  -- Where there is none it is that of those behind them.
+  -- Where there is none it is that of those after them.
   pub none_among : (n m : ℕ) (rs qs : List Read) (all o : Option Changed) → all ≡ first_changed_from ms h D own g ts n (rs ++ qs) → o ≡ first_changed_from ms h D own g ts n rs → o ≡ None → m ≡ n + length rs
       → all ≡ first_changed_from ms h D own g ts m qs
   none_among n m rs qs all o e f i j = by (first_from (is_met_and_changed ms h D own g ts) n rs) refl (sym f ∙ i)
     where
       by : (z : Option Numbered) → first_from (is_met_and_changed ms h D own g ts) n rs ≡ z → option_map with_now z ≡ None → all ≡ first_changed_from ms h D own g ts m qs
-      by None k l = e ∙ ap (option_map with_now) (first_behind (is_met_and_changed ms h D own g ts) n rs qs k) ∙ ap (λ a. first_changed_from ms h D own g ts a qs) (sym j)
+      by None k l = e ∙ ap (option_map with_now) (first_after (is_met_and_changed ms h D own g ts) n rs qs k) ∙ ap (λ a. first_changed_from ms h D own g ts a qs) (sym j)
       by (Some y) k l = absurd (some_is_none (with_now y) l)
 
 -- An option that is no value is none, and so is what is made of it.

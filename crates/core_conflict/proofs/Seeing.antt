@@ -9,9 +9,9 @@ first_of zero ws = refl
 first_of (suc n) [] = refl
 first_of (suc n) (w ∷ ws) = ap (λ (cs : List Change). change_of w ∷ cs) (first_of n ws)
 
--- Seen anew up to a place.
-pub seen_anew : (n : ℕ) (ws : List Write) → [] ++ map change_of (take n ws) ≡ take n (map change_of ws)
-seen_anew n ws = first_of n ws
+-- Seen from the first write up to a place.
+pub seen_first : (n : ℕ) (ws : List Write) → [] ++ map change_of (take n ws) ≡ take n (map change_of ws)
+seen_first n ws = first_of n ws
 
 -- Seen on from one place to another.
 pub seen_on : (a b : ℕ) (ws : List Write) → a ≤ b → take a (map change_of ws) ++ map change_of (take (b - a) (drop a ws)) ≡ take b (map change_of ws)

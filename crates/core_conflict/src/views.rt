@@ -13,7 +13,7 @@ pub(crate) struct EarlierView<'a, F: Facts> {
     pub(crate) seen: usize,
 }
 
-#[tactic(auto, using(crate::proofs::Seeing::seen_anew, crate::proofs::Seeing::seen_on))]
+#[tactic(auto, using(crate::proofs::Seeing::seen_first, crate::proofs::Seeing::seen_on))]
 /// Changes the view from the first `seen` own writes to the first `count`.
 pub(crate) fn see<'a, F: Facts>(
     alloc: Global,

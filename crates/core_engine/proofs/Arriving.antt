@@ -100,7 +100,7 @@ admits_to op n rs rs' es es' number few new grew ms s v B D requests later kept 
       };
     }
 
--- The queued update that was made without recorded answers, and put behind the others.
+-- The queued update that was made without recorded answers, and put after the others.
 pub new_by : (n : ℕ) (u : UpdateOfProgram) (none : Listed Choice) (rs rs' : List QueuedUpdate) (r : QueuedUpdate) → none.items ≡ [] → IsAdmitted n u none r → StandsAt n r → rs' ≡ rs ++ r ∷ [] → IsNew n (operation_of u.operation) rs rs'
 new_by n u none rs rs' r empty is stands grew = record {
   last = r;

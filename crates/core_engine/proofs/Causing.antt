@@ -10,7 +10,7 @@ use Rattle.def_machine.specs.Machine.{Machine}
 use Rattle.def_machine.specs.Updates.{Update, Deps, Read, trail}
 use Rattle.def_machine.specs.Reads.{first_that}
 use Rattle.def_machine.specs.Standings.{is_nil}
-use Rattle.def_machine.specs.Cascade.{Cause, Member, Depends, anew, is_live, read_depends, writer_for, with_member, without_member}
+use Rattle.def_machine.specs.Cascade.{Cause, Member, Depends, begun_again, is_live, read_depends, writer_for, with_member, without_member}
 use Rattle.def_machine.specs.Settle.{settle, restart, cause_of as cause_of_update, if_conflict, if_dependence, conflicts_in, dependences_in}
 use Rattle.def_chase.specs.Mappings.{Rule}
 use Rattle.def_steps.specs.Chase.{caused_chase}
@@ -43,33 +43,33 @@ module _ (ms : List Rule) (B : ℕ) where
   in_order_is xs = both_told (flat_map conflict_in xs) (flat_map dependence_in xs) ∙ (λ i. conflicts_told xs i ++ dependences_told xs i)
 
   -- Those of updates for which none was looked for come to nothing.
-  no_conflicts_behind : (ys : List (Option (Cause (caused_chase ms B)))) (rs : List QueuedUpdate) → conflicts_in (ys ++ map (no_cause ms B) rs) ≡ conflicts_in ys
-  no_conflicts_behind [] [] = refl
-  no_conflicts_behind [] (r ∷ rs) = no_conflicts_behind [] rs
-  no_conflicts_behind (None ∷ ys) rs = no_conflicts_behind ys rs
-  no_conflicts_behind (Some x ∷ ys) rs = ap (if_conflict x) (no_conflicts_behind ys rs)
+  no_conflicts_after : (ys : List (Option (Cause (caused_chase ms B)))) (rs : List QueuedUpdate) → conflicts_in (ys ++ map (no_cause ms B) rs) ≡ conflicts_in ys
+  no_conflicts_after [] [] = refl
+  no_conflicts_after [] (r ∷ rs) = no_conflicts_after [] rs
+  no_conflicts_after (None ∷ ys) rs = no_conflicts_after ys rs
+  no_conflicts_after (Some x ∷ ys) rs = ap (if_conflict x) (no_conflicts_after ys rs)
 
-  no_dependences_behind : (ys : List (Option (Cause (caused_chase ms B)))) (rs : List QueuedUpdate) → dependences_in (ys ++ map (no_cause ms B) rs) ≡ dependences_in ys
-  no_dependences_behind [] [] = refl
-  no_dependences_behind [] (r ∷ rs) = no_dependences_behind [] rs
-  no_dependences_behind (None ∷ ys) rs = no_dependences_behind ys rs
-  no_dependences_behind (Some x ∷ ys) rs = ap (if_dependence x) (no_dependences_behind ys rs)
+  no_dependences_after : (ys : List (Option (Cause (caused_chase ms B)))) (rs : List QueuedUpdate) → dependences_in (ys ++ map (no_cause ms B) rs) ≡ dependences_in ys
+  no_dependences_after [] [] = refl
+  no_dependences_after [] (r ∷ rs) = no_dependences_after [] rs
+  no_dependences_after (None ∷ ys) rs = no_dependences_after ys rs
+  no_dependences_after (Some x ∷ ys) rs = ap (if_dependence x) (no_dependences_after ys rs)
 
-  pub no_restarts_behind : (n : ℕ) (ys : List (Option (Cause (caused_chase ms B)))) (rs : List QueuedUpdate) (us : List (Update (caused_chase ms B)))
+  pub no_restarts_after : (n : ℕ) (ys : List (Option (Cause (caused_chase ms B)))) (rs : List QueuedUpdate) (us : List (Update (caused_chase ms B)))
       → restart (caused_chase ms B) n (ys ++ map (no_cause ms B) rs) us ≡ restart (caused_chase ms B) n ys us
-  no_restarts_behind n ys rs [] = refl
-  no_restarts_behind n [] [] (u ∷ us) = refl
-  no_restarts_behind n [] (r ∷ rs) (u ∷ us) = ap (λ (vs : List (Update (caused_chase ms B))). u ∷ vs) (no_restarts_behind (suc n) [] rs us ∙ none_restart us)
+  no_restarts_after n ys rs [] = refl
+  no_restarts_after n [] [] (u ∷ us) = refl
+  no_restarts_after n [] (r ∷ rs) (u ∷ us) = ap (λ (vs : List (Update (caused_chase ms B))). u ∷ vs) (no_restarts_after (suc n) [] rs us ∙ none_restart us)
     where
       none_restart : (vs : List (Update (caused_chase ms B))) → restart (caused_chase ms B) (suc n) [] vs ≡ vs
       none_restart [] = refl
       none_restart (v ∷ vs) = refl
-  no_restarts_behind n (y ∷ ys) rs (u ∷ us) = ap (λ (vs : List (Update (caused_chase ms B))). (if is_some y then anew (caused_chase ms B) n u else u) ∷ vs) (no_restarts_behind (suc n) ys rs us)
+  no_restarts_after n (y ∷ ys) rs (u ∷ us) = ap (λ (vs : List (Update (caused_chase ms B))). (if is_some y then begun_again (caused_chase ms B) n u else u) ∷ vs) (no_restarts_after (suc n) ys rs us)
 
   -- In order they are the conflicts and then the dependences of all the updates.
   pub in_order_for : (rs : List QueuedUpdate) (xs : List (Option CauseOfProgram)) → told (in_order xs) ≡ conflicts_in (found_for ms B rs xs) ++ dependences_in (found_for ms B rs xs)
   in_order_for rs xs =
-      in_order_is xs ∙ sym (λ i. no_conflicts_behind (all_found ms B xs) (drop (length xs) rs) i ++ no_dependences_behind (all_found ms B xs) (drop (length xs) rs) i)
+      in_order_is xs ∙ sym (λ i. no_conflicts_after (all_found ms B xs) (drop (length xs) rs) i ++ no_dependences_after (all_found ms B xs) (drop (length xs) rs) i)
 
   pub all_marked : (xs : List (Option CauseOfProgram)) → map is_some (all_found ms B xs) ≡ map is_some xs
   all_marked [] = refl

@@ -16,7 +16,7 @@ use Rattle.core_engine.specs.Follows.{AreSame, KeepsCommitted, KeepsUnready}
 use Rattle.core_engine.proofs.Following.{marks_for, marked_so}
 use Rattle.core_engine.proofs.Small.{front}
 
--- With another update at the place, and whatever behind it.
+-- With another update at the place, and whatever follows it.
 placed : (M : Machine) (us : List (Update M)) (k c : ℕ) (v : Update M) (ws : List (Update M)) → c ≤ k → c ≤ committed M us → c ≤ committed M (take (suc k) (set us k v) ++ ws)
 placed M us k zero v ws l h = omega arith
 placed M [] k (suc c) v ws l h = absurd (omega (arith, h))

@@ -41,7 +41,7 @@ use Rattle.core_engine.specs.declared.aftermaths.Aftermath.{Aftermath}
 use Rattle.core_engine.proofs.Delivering.{mapped_more}
 use Rattle.core_engine.proofs.Following.{follows, cut_at, dropped_map, marks_for, marked_so, taken_long, within}
 use Rattle.core_engine.proofs.Making.{placed_within, queued_placed}
-use Rattle.core_engine.proofs.Placing.{restarted_behind}
+use Rattle.core_engine.proofs.Placing.{restarted_after}
 use Rattle.core_engine.proofs.Preparing.{left_by}
 use Rattle.core_engine.proofs.Telling.{there_is, number_there}
 use Rattle.core_engine.proofs.Trailing.{versions_with}
@@ -87,7 +87,7 @@ loss_prepared_at ms s c k v v' rs up r left numbers l spot above counts is B req
 pub removed_is : (rs rs' : List QueuedUpdate) (k : ℕ) (fs : List (Option ProgramState)) (r r' : QueuedUpdate) → k < length rs → r ≡ get_or rs k r → HasWithdrawn (get_or rs k r) r' → HaveRestarted (k + 1) fs (set rs k r') rs' → IsRemoved k fs rs rs'
 removed_is rs rs' k fs r r' l e gone restarts ms B q xs spot marks =
     let there : get_or rs k r ≡ q = sym e ∙ same_Some r q (sym (there_is rs k r l e) ∙ spot) in
-    restarted_behind rs rs' k fs q r' ms B (withdrawn_now (caused_chase ms B) (update_of ms B q)) xs spot
+    restarted_after rs rs' k fs q r' ms B (withdrawn_now (caused_chase ms B) (update_of ms B q)) xs spot
     (gone ms B ∙ ap (λ (p : QueuedUpdate). withdrawn_now (caused_chase ms B) (update_of ms B p)) there) restarts marks
 
 pub withdrawal_told : (k n c : ℕ) (causes : Listed CauseOfProgram) (rs : List QueuedUpdate) (r : QueuedUpdate) → AreFrom 1 rs → k < length rs → r ≡ get_or rs k r → n ≡ r.program.attempt.number → HasCommitted rs c

@@ -102,7 +102,7 @@ module _ (ms : List Rule) (B : ℕ) where
 
 -- ---- queued updates
 
--- One more queued update behind those from number n on.
+-- One more queued update after those from number n on.
 pub from_more : (n : ℕ) (rs : List QueuedUpdate) (r : QueuedUpdate) → AreFrom n rs → StandsAt (n + length rs) r → AreFrom n (rs ++ r ∷ [])
 from_more n [] r a s = let same : n + 0 ≡ n = omega arith in (subst (λ (m : ℕ). StandsAt m r) same s, tt)
 from_more n (q ∷ rs) r a s = let same : n + suc (length rs) ≡ suc n + length rs = omega arith in (a.0, from_more (suc n) rs r a.1 (subst (λ (m : ℕ). StandsAt m r) same s))

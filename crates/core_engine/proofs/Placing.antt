@@ -129,10 +129,10 @@ pub fresh_above : (rs : List QueuedUpdate) (k : ℕ) (r' : QueuedUpdate) (fs : L
 fresh_above rs k r' fs a = subst (λ (qs : List QueuedUpdate). AreFresh qs fs) (sym (dropped_set rs k r')) a
 
 -- The update at the place is w now, and those above it have restarted for which there is an attempt.
-pub restarted_behind : (rs rs' : List QueuedUpdate) (k : ℕ) (fs : List (Option ProgramState)) (q r' : QueuedUpdate) (ms : List Rule) (B : ℕ) (w : Update (caused_chase ms B)) (xs : List (Option (Cause (caused_chase ms B)))) → slice_get rs k ≡ Some q → update_of ms B r' ≡ w
+pub restarted_after : (rs rs' : List QueuedUpdate) (k : ℕ) (fs : List (Option ProgramState)) (q r' : QueuedUpdate) (ms : List Rule) (B : ℕ) (w : Update (caused_chase ms B)) (xs : List (Option (Cause (caused_chase ms B)))) → slice_get rs k ≡ Some q → update_of ms B r' ≡ w
     → HaveRestarted (k + 1) fs (set rs k r') rs' → map is_some xs ≡ map is_some fs
     → updates_of ms B rs' ≡ take k (updates_of ms B rs) ++ w ∷ restart (caused_chase ms B) (suc (suc k)) xs (drop (suc k) (updates_of ms B rs))
-restarted_behind rs rs' k fs q r' ms B w xs spot made restarts marks =
+restarted_after rs rs' k fs q r' ms B w xs spot made restarts marks =
     let us : List (Update (caused_chase ms B)) = updates_of ms B rs in
     let at_us : slice_get us k ≡ Some (update_of ms B q) = slice_get-map (update_of ms B) rs k ∙ ap (option_map (update_of ms B)) spot in
     let l : k < length us = within us k (update_of ms B q) at_us in
@@ -148,7 +148,7 @@ pub installed_is : (rs rs' : List QueuedUpdate) (k : ℕ) (plan : Plan) (fs : Li
     → HaveRestarted (k + 1) fs (set rs k r') rs' → IsInstalled k plan fs rs rs'
 installed_is rs rs' k plan fs r r' l e steps restarts ms B D q xs spot is marks =
     let there : get_or rs k r ≡ q = sym e ∙ same_Some r q (sym (there_is rs k r l e) ∙ spot) in
-    restarted_behind rs rs' k fs q r' ms B (stepped (caused_chase ms B) D (update_of ms B q)) xs spot
+    restarted_after rs rs' k fs q r' ms B (stepped (caused_chase ms B) D (update_of ms B q)) xs spot
     (steps ms B D (subst (λ (p : QueuedUpdate). IsPlanOf ms B D p plan) (sym there) is) ∙ ap (λ (p : QueuedUpdate). stepped (caused_chase ms B) D (update_of ms B p)) there) restarts marks
 
 -- ---- what lies above a place

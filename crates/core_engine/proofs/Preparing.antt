@@ -45,7 +45,7 @@ use Rattle.core_engine.specs.Steps.{HasHidden, HasTurned, IsFound, RanAbove, aft
 use Rattle.core_engine.specs.Withdrawals.{IsLeft, WereLost}
 use Rattle.core_engine.specs.declared.aftermaths.Aftermath.{Aftermath}
 use Rattle.core_engine.specs.declared.stepping.Prepared.{Prepared}
-use Rattle.core_engine.proofs.Causing.{in_order_for, no_restarts_behind, all_marked, no_conflicts}
+use Rattle.core_engine.proofs.Causing.{in_order_for, no_restarts_after, all_marked, no_conflicts}
 use Rattle.core_engine.proofs.Trailing.{versions_with, versions_cleared, one_by_one}
 
 if_is_true : {A : Type 0} (b : Bool) (x y : A) → b ≡ true → (if b then x else y) ≡ x
@@ -65,7 +65,7 @@ module _ (ms : List Rule) (B : ℕ) (D : List Fact) (u : Update (caused_chase ms
       by true = refl
       by false = if_is_true (hides ((caused_chase ms B).outcome (stepped (caused_chase ms B) D u).state)) [] ((caused_chase ms B).own (stepped (caused_chase ms B) D u).state) h
 
-  -- Else they come behind those that it showed.
+  -- Else they come after those that it showed.
   pub longer_trail : (s : Settings) (c n : ℕ) → Rattle.def_machine.specs.Standings.is_ready (Rattle.def_machine.specs.Standings.standing (caused_chase ms B) s c n u) ≡ true
       → hides ((caused_chase ms B).outcome (stepped (caused_chase ms B) D u).state) ≡ false
       → trail (caused_chase ms B) (stepped (caused_chase ms B) D u) ≡ trail (caused_chase ms B) u ++ step_writes (caused_chase ms B) D u
@@ -86,7 +86,7 @@ module _ (ms : List Rule) (B : ℕ) (D : List Fact) (u : Update (caused_chase ms
 plan_state : (ms : List Rule) (B : ℕ) (D : List Fact) (r : QueuedUpdate) (plan : Plan) → IsPlanOf ms B D r plan → plan.program.attempt ≡ (stepped (caused_chase ms B) D (update_of ms B r)).state
 plan_state ms B D r plan p = ap (λ (s : State). s.attempt) p.program
 
--- Its versions: with the writes of the step behind, or without any.
+-- Its versions: with the writes of the step after the others, or without any.
 pub shows_hidden : (r : QueuedUpdate) (plan : Plan) (ws : List Write) (b : Bool) (old new : Kept) → HasHidden plan.program b → b ≡ true → HasTrail r ws → Retracted r.program.attempt.number (map change_of ws) old new → ShowsStep r plan old new
 shows_hidden r plan ws b old new hidden t trail_is taken ms B D s c n may p E before after stand was is same =
     taken E before after stand (was ∙ sym (trail_is ms B))
@@ -132,7 +132,7 @@ module _ (ms : List Rule) (B : ℕ) where
             λ xs m. restart_is (caused_chase ms B) n xs us
             ∙ ap (λ bs. restart_by (caused_chase ms B) n bs us) (m ∙ sym (all_marked ms B found))
             ∙ sym (restart_is (caused_chase ms B) n (all_found ms B found) us)
-            ∙ sym (no_restarts_behind ms B n (all_found ms B found) (drop (length found) rs) us)
+            ∙ sym (no_restarts_after ms B n (all_found ms B found) (drop (length found) rs) us)
             ∙ ap (λ (S' : List (Option (Cause (caused_chase ms B)))). restart (caused_chase ms B) n S' us) e ∙ sym r;
       }
 

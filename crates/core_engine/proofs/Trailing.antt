@@ -2,7 +2,7 @@
 use Rattle.std.proofs.Common.{◌≡◌, ◌∙◌, ap, refl, sym, subst, ℕ, zero, suc, Bool, true, false, Option, List, [], ◌∷◌, ◌++◌, map, length}
 use Rattle.std.specs.Prelude.{if◌then◌else◌, is_some}
 use Rattle.def_machine.specs.Updates.{Update, trail}
-use Rattle.def_machine.specs.Cascade.{Cause, anew}
+use Rattle.def_machine.specs.Cascade.{Cause, begun_again}
 use Rattle.def_machine.specs.Settle.{restart}
 use Rattle.def_chase.specs.Mappings.{Rule}
 use Rattle.def_chase.specs.Values.{Fact}
@@ -52,18 +52,18 @@ module _ (ms : List Rule) (B : ℕ) where
   no_writes true = refl
   no_writes false = refl
 
-  -- What begins anew shows no write.
-  pub anew_shows : (n : ℕ) (u : Update (caused_chase ms B)) → trail (caused_chase ms B) (anew (caused_chase ms B) n u) ≡ []
-  anew_shows n u = no_writes u.withdrawn
+  -- What begins again shows no write.
+  pub begun_again_shows : (n : ℕ) (u : Update (caused_chase ms B)) → trail (caused_chase ms B) (begun_again (caused_chase ms B) n u) ≡ []
+  begun_again_shows n u = no_writes u.withdrawn
 
   abbrev restarted_if : Bool → ℕ → Update (caused_chase ms B) → Update (caused_chase ms B)
-  restarted_if b n u = if b then anew (caused_chase ms B) n u else u
+  restarted_if b n u = if b then begun_again (caused_chase ms B) n u else u
 
   cleared_one : (b : Bool) (D : List Fact) (lower : List (Update (caused_chase ms B))) (r : QueuedUpdate) (upper : List (Update (caused_chase ms B))) (old new : Kept) → r.program.attempt.number ≡ suc (length lower)
       → ClearedIf b r old new → AreVersions ms B D (lower ++ update_of ms B r ∷ upper) old → AreVersions ms B D (lower ++ restarted_if b (suc (length lower)) (update_of ms B r) ∷ upper) new
   cleared_one true D lower r upper old new e c h =
-      versions_with r.program.attempt.number D lower (update_of ms B r) (anew (caused_chase ms B) (suc (length lower)) (update_of ms B r)) upper old new e
-      (λ E before after stand is none same. c E before after stand is (none ∙ anew_shows (suc (length lower)) (update_of ms B r)) same) h
+      versions_with r.program.attempt.number D lower (update_of ms B r) (begun_again (caused_chase ms B) (suc (length lower)) (update_of ms B r)) upper old new e
+      (λ E before after stand is none same. c E before after stand is (none ∙ begun_again_shows (suc (length lower)) (update_of ms B r)) same) h
   cleared_one false D lower r upper old new e c h = subst (λ (v : Kept). AreVersions ms B D (lower ++ update_of ms B r ∷ upper) v) c h
 
   longer : (lower : List (Update (caused_chase ms B))) (x : Update (caused_chase ms B)) → suc (length lower) ≡ length (lower ++ x ∷ [])

@@ -5,7 +5,7 @@ use Rattle.std.proofs.Math.ListN.{set}
 use Rattle.std.proofs.lemmas.List.{map-set, drop-map, drop-drop, length-drop, take-append-drop}
 use Rattle.def_history.specs.Cores.{Ground}
 use Rattle.def_history.specs.PlainEntries.{PlainEntry}
-use Rattle.def_machine.specs.Cascade.{Cause, anew}
+use Rattle.def_machine.specs.Cascade.{Cause, begun_again}
 use Rattle.def_machine.specs.Machine.{Machine}
 use Rattle.def_machine.specs.Settle.{restart}
 use Rattle.def_machine.specs.Updates.{Update}
@@ -33,17 +33,17 @@ restarts_unread M n m xs [] h = h
 restarts_unread M n m [] (u ∷ us) h = h
 restarts_unread M zero m (x ∷ xs) (u ∷ us) h = (by (is_some x), restarts_unread M zero (suc m) xs us h.1)
   where
-    by : (b : Bool) → (if b then anew M m u else u).log ≡ []
+    by : (b : Bool) → (if b then begun_again M m u else u).log ≡ []
     by true = refl
     by false = h.0
 restarts_unread M (suc n) m (x ∷ xs) (u ∷ us) h = restarts_unread M n (suc m) xs us h
 
--- Nor do those behind a place.
-behind_unread : (M : Machine) (k n m : ℕ) (xs : List (Option (Cause M))) (us : List (Update M)) → AreUnread M (drop n us) → AreUnread M (drop n (take k us ++ restart M m xs (drop k us)))
-behind_unread M zero n m xs us h = restarts_unread M n m xs us h
-behind_unread M (suc k) n m xs [] h = h
-behind_unread M (suc k) zero m xs (u ∷ us) h = (h.0, behind_unread M k zero m xs us h.1)
-behind_unread M (suc k) (suc n) m xs (u ∷ us) h = behind_unread M k n m xs us h
+-- Nor does a restart of those after a place.
+unread_after : (M : Machine) (k n m : ℕ) (xs : List (Option (Cause M))) (us : List (Update M)) → AreUnread M (drop n us) → AreUnread M (drop n (take k us ++ restart M m xs (drop k us)))
+unread_after M zero n m xs us h = restarts_unread M n m xs us h
+unread_after M (suc k) n m xs [] h = h
+unread_after M (suc k) zero m xs (u ∷ us) h = (h.0, unread_after M k zero m xs us h.1)
+unread_after M (suc k) (suc n) m xs (u ∷ us) h = unread_after M k n m xs us h
 
 past : {A : Type 0} (xs : List A) (k n : ℕ) (y : A) → suc k ≤ n → drop n (set xs k y) ≡ drop n xs
 past [] k n y l = refl
@@ -57,7 +57,7 @@ unread_kept rs rs' k r' fs restarts n l h ms B =
     let us : List (Update (caused_chase ms B)) = updates_of ms B (set rs k r') in
     let put : drop n us ≡ drop n (updates_of ms B rs) = ap (drop n) (map-set (update_of ms B) rs k r') ∙ past (updates_of ms B rs) k n (update_of ms B r') l in
     subst (λ (vs : List (Update (caused_chase ms B))). AreUnread (caused_chase ms B) (drop n vs)) (sym (restarts ms B (marks_for ms B fs) (marked_so ms B fs)))
-    (behind_unread M (k + 1) n (suc (k + 1)) (marks_for ms B fs) us (subst (λ (vs : List (Update (caused_chase ms B))). AreUnread (caused_chase ms B) vs) (sym put) (h ms B)))
+    (unread_after M (k + 1) n (suc (k + 1)) (marks_for ms B fs) us (subst (λ (vs : List (Update (caused_chase ms B))). AreUnread (caused_chase ms B) vs) (sym put) (h ms B)))
 
 restart_none : (M : Machine) (n : ℕ) (us : List (Update M)) → restart M n [] us ≡ us
 restart_none M n [] = refl

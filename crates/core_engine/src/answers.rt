@@ -33,8 +33,8 @@ pub(crate) fn answer_at(
     ensures back { IfErr result (λ back. choice_of back ≡ choice_of choice) }
 {
     match prepare_answer(alloc, queue, history, place, &choice) {
-        Ok(told) => {
-            put_answer(alloc, settings, queue, history, place, choice, told);
+        Ok(copy) => {
+            put_answer(alloc, settings, queue, history, place, choice, copy);
             Ok(())
         }
         Err(_) => Err(choice),
@@ -52,18 +52,17 @@ fn prepare_answer(
     requires place { place < length queue.old }
     ensures room { OnOk result (HasAnswerRoomAt place queue.new) }
     ensures spare { OnOk result (1 ≤ history.new.spare) }
-    ensures told { IfOk result (λ told. choice_of told ≡ choice_of choice.now) }
+    ensures copied { IfOk result (λ copy. choice_of copy ≡ choice_of choice.now) }
     ensures same { AreSame queue.old queue.new }
     ensures long { length queue.new ≡ length queue.old }
     ensures history { history.new.items ≡ history.old.items }
 {
     reserve_delivery(queue, history, place)?;
-    let told = choice.copy(alloc)?;
-    Ok(told)
+    let copy = choice.copy(alloc)?;
+    Ok(copy)
 }
 
-// Makes the choice the answer that the update at the place waits for, and puts its copy `told` into the entry. There is room
-// for both.
+// Makes the choice the answer that the update at the place waits for, and puts its copy into the entry. There is room for both.
 fn put_answer(
     alloc: Global,
     settings: Settings,
@@ -71,19 +70,19 @@ fn put_answer(
     history: &mut EntryList,
     place: usize,
     choice: Choice,
-    told: Choice,
+    copy: Choice,
 )
     requires place { place < length queue.old }
     requires numbers { AreFrom 1 queue.old }
     requires room { HasAnswerRoomAt place queue.old }
     requires spare { 1 ≤ history.old.spare }
-    requires told { choice_of told ≡ choice_of choice }
+    requires copied { choice_of copy ≡ choice_of choice }
     ensures made { AnswersTo (settings_of settings) place (choice_of choice) queue.old
         history.old.items queue.new history.new.items }
     ensures long { length queue.new ≡ length queue.old }
 {
     queue[place].answer(alloc, choice);
-    let entry = answer_entry(settings, queue, place, told);
+    let entry = answer_entry(settings, queue, place, copy);
     put_last(history, entry);
 }
 

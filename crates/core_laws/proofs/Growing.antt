@@ -58,10 +58,10 @@ all_act : (relations : List RelationSchema) (ms : List Rule) (u : ℕ) (ops : Li
 all_act relations ms u [] few h = tt
 all_act relations ms u (op ∷ ops) few h = (acts relations ms u h.0.0 op few h.0.1, all_act relations ms (suc u) ops few h.1)
 
--- those behind others that act in time
-act_behind : (ms : List Rule) (u : ℕ) (rs more : List Request) → ((n : ℕ) → ActInTime ms n more) → ActInTime ms u rs → ActInTime ms u (rs ++ more)
-act_behind ms u [] more acts h = acts u
-act_behind ms u (r ∷ rs) more acts h = (h.0, act_behind ms (suc u) rs more acts h.1)
+-- those after others that act in time
+act_after : (ms : List Rule) (u : ℕ) (rs more : List Request) → ((n : ℕ) → ActInTime ms n more) → ActInTime ms u rs → ActInTime ms u (rs ++ more)
+act_after ms u [] more acts h = acts u
+act_after ms u (r ∷ rs) more acts h = (h.0, act_after ms (suc u) rs more acts h.1)
 
 -- ---- the session
 
@@ -71,7 +71,7 @@ admissible_with s budget c ops v meets some h =
     let rs = requests_in s ++ map unanswered ops in
     subst (λ (xs : List Request). IsAdmissible (rules s) budget (record { base = s.base; submissions = submissions (rules s) budget xs })) (append-nil rs)
     (timely_is_admissible budget s rs v meets some
-    (act_behind (rules s) 1 (requests_in s) (map unanswered ops) (λ n. all_act s.relations (rules s) n ops (few_relations s v) h) (timely s v).updates))
+    (act_after (rules s) 1 (requests_in s) (map unanswered ops) (λ n. all_act s.relations (rules s) n ops (few_relations s v) h) (timely s v).updates))
 
 pub live_is_admissible : LiveIsAdmissible
 live_is_admissible s g of =

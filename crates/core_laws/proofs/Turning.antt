@@ -128,7 +128,7 @@ turns_law g (suc n) H H' some sorted legal h =
     let others : Keeps g a.0 H' = turns_law g n a.0 H' some sorted first.legal a.2 in
     record { legal = others.legal; recorded = λ r. others.recorded (first.recorded r); count = others.count ∙ first.count }
 
--- One more turn behind the others.
+-- One more turn after the others.
 pub turns_more : (g : Ground) (n : ℕ) (H H' H'' : List PlainEntry) → after_turns g n H ≡ Some H' → turned g H' ≡ Some H'' → after_turns g (suc n) H ≡ Some H''
 turns_more g zero H H' H'' h t = ap (λ (o : Option (List PlainEntry)). option_and_then (after_turns g zero) o) (ap (turned g) (same_Some H H' h) ∙ t)
 turns_more g (suc n) H H' H'' h t =

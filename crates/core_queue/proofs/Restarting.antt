@@ -5,7 +5,7 @@ use Rattle.std.proofs.Math.ListN.{set}
 use Rattle.std.proofs.lemmas.List.{map-set, get_or-map, length-map, take-append-drop}
 use Rattle.def_machine.specs.Machine.{Machine}
 use Rattle.def_machine.specs.Updates.{Update}
-use Rattle.def_machine.specs.Cascade.{Cause, anew}
+use Rattle.def_machine.specs.Cascade.{Cause, begun_again}
 use Rattle.def_machine.specs.Settle.{restart}
 use Rattle.def_chase.specs.Mappings.{Rule}
 use Rattle.chase_update.specs.Courses.{State}
@@ -19,22 +19,22 @@ use Rattle.core_queue.specs.declared.updates.QueuedUpdate.{QueuedUpdate}
 abbrev pub restart_by : (M : Machine) → ℕ → List Bool → List (Update M) → List (Update M)
 restart_by M n bs [] = []
 restart_by M n [] (u ∷ us) = u ∷ us
-restart_by M n (b ∷ bs) (u ∷ us) = (if b then anew M n u else u) ∷ restart_by M (suc n) bs us
+restart_by M n (b ∷ bs) (u ∷ us) = (if b then begun_again M n u else u) ∷ restart_by M (suc n) bs us
 
 pub restart_is : (M : Machine) (n : ℕ) (xs : List (Option (Cause M))) (us : List (Update M)) → restart M n xs us ≡ restart_by M n (map is_some xs) us
 restart_is M n xs [] = refl
 restart_is M n [] (u ∷ us) = refl
-restart_is M n (x ∷ xs) (u ∷ us) = λ i. (if is_some x then anew M n u else u) ∷ restart_is M (suc n) xs us i
+restart_is M n (x ∷ xs) (u ∷ us) = λ i. (if is_some x then begun_again M n u else u) ∷ restart_is M (suc n) xs us i
 
 -- Without marks nothing is.
 pub none_restart : (M : Machine) (n : ℕ) (us : List (Update M)) → restart_by M n [] us ≡ us
 none_restart M n [] = refl
 none_restart M n (u ∷ us) = refl
 
-turn : (M : Machine) (us : List (Update M)) (k n : ℕ) (v : Update M) (b : Bool) (bs : List Bool) (u : Update M) → k < length us → get_or us k u ≡ u → v ≡ (if b then anew M n u else u)
+turn : (M : Machine) (us : List (Update M)) (k n : ℕ) (v : Update M) (b : Bool) (bs : List Bool) (u : Update M) → k < length us → get_or us k u ≡ u → v ≡ (if b then begun_again M n u else u)
     → take (suc k) (set us k v) ++ restart_by M (suc n) bs (drop (suc k) (set us k v)) ≡ take k us ++ restart_by M n (b ∷ bs) (drop k us)
 turn M [] k n v b bs u h e r = absurd (omega (arith, h))
-turn M (x ∷ us) zero n v b bs u h e r = λ j. (r ∙ (λ i. if b then anew M n (sym e i) else sym e i)) j ∷ restart_by M (suc n) bs us
+turn M (x ∷ us) zero n v b bs u h e r = λ j. (r ∙ (λ i. if b then begun_again M n (sym e i) else sym e i)) j ∷ restart_by M (suc n) bs us
 turn M (x ∷ us) (suc k) n v b bs u h e r = let l : k < length us = omega (arith, h) in λ j. x ∷ turn M us k n v b bs u l e r j
 
 -- ---- places
@@ -62,7 +62,7 @@ fresh_within [] (suc k) f fs h = absurd h
 fresh_within (x ∷ rs) zero f fs h = omega arith
 fresh_within (x ∷ rs) (suc k) f fs h = let l : k < length rs = fresh_within rs k f fs h in omega (arith, l)
 
--- The others are those of the queued updates behind it.
+-- The others are those of the queued updates after it.
 pub fresh_rest : (rs : List QueuedUpdate) (k : ℕ) (f : Option State) (fs : List (Option State)) (v : QueuedUpdate) → AreFresh (drop k rs) (f ∷ fs) → AreFresh (drop (suc k) (set rs k v)) fs
 fresh_rest [] zero f fs v h = absurd h
 fresh_rest [] (suc k) f fs v h = absurd h
@@ -81,11 +81,11 @@ turned ms B rs k m r v f bs a h e g q =
     let l : k < length (updates_of ms B rs) = simp length-map h in
     let number = (stands_there rs 1 k r a h e).number in
     let same : 1 + k ≡ suc k = omega arith in
-    let made : update_of ms B v ≡ (if is_some f then anew M (suc k) u else u) = g ms B ∙ ap (λ (n : ℕ). if is_some f then anew M n u else u) (number ∙ same) in
+    let made : update_of ms B v ≡ (if is_some f then begun_again M (suc k) u else u) = g ms B ∙ ap (λ (n : ℕ). if is_some f then begun_again M n u else u) (number ∙ same) in
     (λ i. take (q i) (map-set (update_of ms B) rs k v i) ++ restart_by M (suc (q i)) bs (drop (q i) (map-set (update_of ms B) rs k v i)))
     ∙ turn M (updates_of ms B rs) k (suc k) (update_of ms B v) (is_some f) bs u l (get_or-map (update_of ms B) rs k r u h ∙ ap (update_of ms B) e) made
 
--- The queued updates behind those that were restarted stay as they are.
+-- The queued updates after those that were restarted stay as they are.
 pub restarted : (ms : List Rule) (B : ℕ) (us all : List (Update (caused_chase ms B))) (k n : ℕ) (xs : List (Option (Cause (caused_chase ms B)))) (fs gs : List (Option State)) → gs ≡ [] → map is_some xs ≡ map is_some fs
     → take k us ++ restart_by (caused_chase ms B) (suc k) (map is_some gs) (drop k us) ≡ take n all ++ restart_by (caused_chase ms B) (suc n) (map is_some fs) (drop n all)
     → us ≡ take n all ++ restart (caused_chase ms B) (suc n) xs (drop n all)

@@ -19,7 +19,7 @@ use Rattle.core_queue.specs.Updates.{CannotStep, IsOver, IsUnready}
 use Rattle.core_queue.specs.Order.{AreUnready, UnreadyUpTo}
 use Rattle.core_queue.specs.Wants.{HasLack}
 use Rattle.core_queue.specs.declared.updates.QueuedUpdate.{QueuedUpdate}
-use Rattle.core_queue.proofs.Walking.{IsFirst, besides_test, dropped, from_behind, ready_fails, stands_here}
+use Rattle.core_queue.proofs.Walking.{IsFirst, besides_test, dropped, from_after, ready_fails, stands_here}
 
 -- What is over is unready.
 pub over_unready : (r : QueuedUpdate) (b : Bool) → IsOver r b → b ≡ true → IsUnready r
@@ -52,13 +52,13 @@ one_more_unready rs n k r e l at fails h ms B =
 
 -- The queued update at the place stands between two steps.
 pub between_here : (rs : List QueuedUpdate) (i : ℕ) (r : QueuedUpdate) → i < length rs → r ≡ get_or rs i r → AreFrom 1 rs → IsBetween r.program
-between_here rs i r l is from = let m : i ≤ length rs = omega (arith, l) in (stands_here rs i (i + 1) r l is (from_behind rs 1 i m from)).between
+between_here rs i r l is from = let m : i ≤ length rs = omega (arith, l) in (stands_here rs i (i + 1) r l is (from_after rs 1 i m from)).between
 
--- Those behind the first are those from the next number on.
+-- Those after the first are those from the next number on.
 pub past_from : (rs rest : List QueuedUpdate) (k : ℕ) → k ≤ length rs → rest ≡ drop k rs → AreFrom 1 rs → AreFrom (suc k) rest
 past_from rs rest k l e from =
     let one : k + 1 ≡ suc k = omega arith in
-    subst (λ (xs : List QueuedUpdate). AreFrom (suc k) xs) (sym e) (subst (λ (m : ℕ). AreFrom m (drop k rs)) one (from_behind rs 1 k l from))
+    subst (λ (xs : List QueuedUpdate). AreFrom (suc k) xs) (sym e) (subst (λ (m : ℕ). AreFrom m (drop k rs)) one (from_after rs 1 k l from))
 
 there : (M : Machine) (n : ℕ) (us : List (Update M)) → AreUnready M n us → n ≤ length us
 there M zero us h = omega arith
@@ -71,7 +71,7 @@ unready_there rs n h = let l = there (caused_chase [] 0) n (updates_of [] 0 rs) 
 pub none_unready : (rs : List QueuedUpdate) → UnreadyUpTo rs 0
 none_unready rs ms B = tt
 
--- The first that passes a test which fails for what cannot step is behind those that are unready.
+-- The first that passes a test which fails for what cannot step comes after those that are unready.
 skipped : (M : Machine) (p : ℕ → Update M → Bool) → ((n : ℕ) (u : Update M) → CannotStep M u → p n u ≡ false) → (us : List (Update M)) (n c : ℕ) → AreUnready M c us
     → lowest_that {M = M} p n us ≡ lowest_that {M = M} p (n + c) (drop c us)
 skipped M p fails us n zero h = let same : n ≡ n + 0 = omega arith in ap (λ (m : ℕ). lowest_that {M = M} p m us) same

@@ -9,7 +9,7 @@ use Rattle.core_queue.specs.Queues.{update_of, updates_of, logged}
 use Rattle.core_queue.specs.Order.{AreUnread, ReadsAtMost}
 use Rattle.core_queue.specs.declared.updates.QueuedUpdate.{QueuedUpdate}
 
--- Behind all of them there is none.
+-- After all of them there is none.
 pub all_may_read : (rs : List QueuedUpdate) (n : ℕ) → length rs ≤ n → ReadsAtMost rs n
 all_may_read rs n h ms B =
     let l : length (updates_of ms B rs) ≤ n = simp length-map h in

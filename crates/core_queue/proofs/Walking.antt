@@ -17,7 +17,7 @@ use Rattle.core_queue.specs.Updates.{IsOver}
 use Rattle.core_queue.specs.Order.{CommitsAtLeast, CommitsOn, HasCommitted, IsNextDeliverable, IsNextOf, only}
 use Rattle.core_queue.specs.declared.updates.QueuedUpdate.{QueuedUpdate}
 
--- What is left of a queue is the queued update at the place, and what is left behind it.
+-- What is left of a queue is the queued update at the place, and what is left after it.
 left_of : (rs : List QueuedUpdate) (i : ℕ) (r : QueuedUpdate) → i < length rs → r ≡ get_or rs i r → drop i rs ≡ r ∷ drop (i + 1) rs
 left_of rs i r h e = drop_more rs i r h ∙ ap (λ (x : QueuedUpdate). x ∷ drop (i + 1) rs) (sym e)
 
@@ -26,9 +26,9 @@ pub stands_here : (rs : List QueuedUpdate) (i n : ℕ) (r : QueuedUpdate) → i 
 stands_here rs i n r h e a =
     let all : AreFrom n (r ∷ drop (i + 1) rs) = subst (AreFrom n) (left_of rs i r h e) a in all.0
 
--- Those behind it stand behind it.
-pub stand_behind : (rs : List QueuedUpdate) (i n m : ℕ) (r : QueuedUpdate) → i < length rs → r ≡ get_or rs i r → m ≡ suc n → AreFrom n (drop i rs) → AreFrom m (drop (i + 1) rs)
-stand_behind rs i n m r h e q a =
+-- Those after it have the numbers that follow.
+pub stand_after : (rs : List QueuedUpdate) (i n m : ℕ) (r : QueuedUpdate) → i < length rs → r ≡ get_or rs i r → m ≡ suc n → AreFrom n (drop i rs) → AreFrom m (drop (i + 1) rs)
+stand_after rs i n m r h e q a =
     let all : AreFrom n (r ∷ drop (i + 1) rs) = subst (AreFrom n) (left_of rs i r h e) a in
     subst (λ (k : ℕ). AreFrom k (drop (i + 1) rs)) (sym q) all.1
 
@@ -93,7 +93,7 @@ first_only M p n u us b e = by b ∙ ap (λ (x : Bool). only n (if x then Some n
     by true = ap (λ (x : Bool). if x then Some n else None) (sym (eq-eqb n n refl))
     by false = later (lowest_that {M = M} p (suc n) us) refl
 
--- Of those behind the committed ones only the first is asked for: its number is told where it passes.
+-- Of those after the committed ones only the first is asked for: its number is told where it passes.
 pub next_of : (p : Test) (rs : List QueuedUpdate) (c k : ℕ) (r : QueuedUpdate) (b : Bool) → 0 < length rs → r ≡ get_or rs 0 r → AreFrom (suc c) rs → k ≡ r.program.attempt.number → Tells p k r b
     → (o : Option ℕ) → o ≡ (if b then Some k else None) → (ms : List Rule) (B : ℕ) → o ≡ only (suc c) (lowest_that {M = caused_chase ms B} (p ms B) (suc c) (updates_of ms B rs))
 next_of p rs c k r b h e a q t o f ms B =
@@ -135,7 +135,7 @@ all_over ms B rs i c all h g =
     let here : committed (caused_chase ms B) (updates_of ms B (drop i rs)) ≡ 0 = ap (λ (xs : List QueuedUpdate). committed (caused_chase ms B) (updates_of ms B xs)) (drop_all i rs h) in
     omega (arith, here, g)
 
--- ---- behind those that are committed
+-- ---- after those that are committed
 
 pub dropped : {X Y : Type 0} (f : X → Y) (xs : List X) (k : ℕ) → map f (drop k xs) ≡ drop k (map f xs)
 dropped f [] zero = refl
@@ -159,18 +159,18 @@ mapped f (x ∷ xs) = ap suc (mapped f xs)
 pub long_enough : (rs : List QueuedUpdate) (c : ℕ) → CommitsAtLeast rs c → c ≤ length rs
 long_enough rs c h = let all = many (caused_chase [] 0) (updates_of [] 0 rs) in let same = mapped (update_of [] 0) rs in let least = h [] 0 in omega (arith, all, same, least)
 
--- Those behind the first stand behind them.
-pub from_behind : (rs : List QueuedUpdate) (n c : ℕ) → c ≤ length rs → AreFrom n rs → AreFrom (c + n) (drop c rs)
-from_behind rs n zero h a = let same : n ≡ 0 + n = omega arith in subst (λ (m : ℕ). AreFrom m rs) same a
-from_behind [] n (suc c) h a = absurd (omega (arith, h))
-from_behind (r ∷ rs) n (suc c) h a =
+-- Those after the first c are numbered on from there.
+pub from_after : (rs : List QueuedUpdate) (n c : ℕ) → c ≤ length rs → AreFrom n rs → AreFrom (c + n) (drop c rs)
+from_after rs n zero h a = let same : n ≡ 0 + n = omega arith in subst (λ (m : ℕ). AreFrom m rs) same a
+from_after [] n (suc c) h a = absurd (omega (arith, h))
+from_after (r ∷ rs) n (suc c) h a =
     let l : c ≤ length rs = omega (arith, h) in
-    let same : c + suc n ≡ suc c + n = omega arith in subst (λ (m : ℕ). AreFrom m (drop c rs)) same (from_behind rs (suc n) c l a.1)
+    let same : c + suc n ≡ suc c + n = omega arith in subst (λ (m : ℕ). AreFrom m (drop c rs)) same (from_after rs (suc n) c l a.1)
 
-pub behind_from : (rs rest : List QueuedUpdate) (c : ℕ) → CommitsAtLeast rs c → AreFrom 1 rs → rest ≡ drop c rs → AreFrom (suc c) rest
-behind_from rs rest c h a e =
+pub rest_from : (rs rest : List QueuedUpdate) (c : ℕ) → CommitsAtLeast rs c → AreFrom 1 rs → rest ≡ drop c rs → AreFrom (suc c) rest
+rest_from rs rest c h a e =
     let one : c + 1 ≡ suc c = omega arith in
-    subst (λ (xs : List QueuedUpdate). AreFrom (suc c) xs) (sym e) (subst (λ (m : ℕ). AreFrom m (drop c rs)) one (from_behind rs 1 c (long_enough rs c h) a))
+    subst (λ (xs : List QueuedUpdate). AreFrom (suc c) xs) (sym e) (subst (λ (m : ℕ). AreFrom m (drop c rs)) one (from_after rs 1 c (long_enough rs c h) a))
 
 -- What is committed are the first, and what of the others is.
 split : (M : Machine) (us : List (Update M)) (c : ℕ) → c ≤ committed M us → c + committed M (drop c us) ≡ committed M us
@@ -182,8 +182,8 @@ split M (u ∷ us) (suc c) h = by (is_over M u) h (split M us c)
     by true l rest = let less : c ≤ committed M us = omega (arith, l) in let same = rest less in omega (arith, same)
     by false l rest = absurd (omega (arith, l))
 
-pub counted_behind : (rs rest : List QueuedUpdate) (c k : ℕ) → CommitsAtLeast rs c → rest ≡ drop c rs → CommitsOn c rest k → HasCommitted rs k
-counted_behind rs rest c k h e on ms B =
+pub counted_after : (rs rest : List QueuedUpdate) (c k : ℕ) → CommitsAtLeast rs c → rest ≡ drop c rs → CommitsOn c rest k → HasCommitted rs k
+counted_after rs rest c k h e on ms B =
     let M = caused_chase ms B in
     on ms B ∙ ap (λ (xs : List QueuedUpdate). c + committed M (updates_of ms B xs)) e ∙ ap (λ (us : List (Update M)). c + committed M us) (dropped (update_of ms B) rs c) ∙ split M (updates_of ms B rs) c (h ms B)
 
@@ -193,7 +193,7 @@ none_committed rs ms B = omega arith
 pub commits_so : (rs : List QueuedUpdate) (c : ℕ) → HasCommitted rs c → CommitsAtLeast rs c
 commits_so rs c h ms B = let same = h ms B in omega (arith, same)
 
--- Where a test fails for all that are over, the first that passes it is behind those that are committed.
+-- Where a test fails for all that are over, the first that passes it comes after those that are committed.
 skipped : (M : Machine) (p : ℕ → Update M → Bool) → ((n : ℕ) (u : Update M) → is_over M u ≡ true → p n u ≡ false) → (us : List (Update M)) (n c : ℕ) → c ≤ committed M us
     → lowest_that {M = M} p n us ≡ lowest_that {M = M} p (n + c) (drop c us)
 skipped M p over us n zero h = let same : n ≡ n + 0 = omega arith in ap (λ (m : ℕ). lowest_that {M = M} p m us) same
@@ -212,10 +212,10 @@ skipped M p over (u ∷ us) n (suc c) h = by (is_over M u) refl h (skipped M p o
 abbrev pub FailsOver : Test → Type 0
 FailsOver p = (ms : List Rule) (B n : ℕ) (u : Update (caused_chase ms B)) → is_over (caused_chase ms B) u ≡ true → p ms B n u ≡ false
 
--- The first that passes it is the same over all, and over those that come behind.
-pub same_behind : (p : Test) → FailsOver p → (rs rest : List QueuedUpdate) (c : ℕ) → CommitsAtLeast rs c → rest ≡ drop c rs → (ms : List Rule) (B : ℕ)
+-- The first that passes it is the same over all, and over those after the committed ones.
+pub same_after : (p : Test) → FailsOver p → (rs rest : List QueuedUpdate) (c : ℕ) → CommitsAtLeast rs c → rest ≡ drop c rs → (ms : List Rule) (B : ℕ)
     → lowest_that {M = caused_chase ms B} (p ms B) (suc c) (updates_of ms B rest) ≡ lowest_that {M = caused_chase ms B} (p ms B) 1 (updates_of ms B rs)
-same_behind p over rs rest c h e ms B =
+same_after p over rs rest c h e ms B =
     let M = caused_chase ms B in
     let one : suc c ≡ 1 + c = omega arith in
     ap (λ (xs : List QueuedUpdate). lowest_that {M = M} (p ms B) (suc c) (updates_of ms B xs)) e
@@ -223,8 +223,8 @@ same_behind p over rs rest c h e ms B =
     ∙ ap (λ (m : ℕ). lowest_that {M = M} (p ms B) m (drop c (updates_of ms B rs))) one
     ∙ sym (skipped M (p ms B) (over ms B) (updates_of ms B rs) 1 c (h ms B))
 
-pub first_behind : (p : Test) → FailsOver p → (rs rest : List QueuedUpdate) (c : ℕ) (o : Option ℕ) → CommitsAtLeast rs c → rest ≡ drop c rs → IsFirst p (suc c) rest o → IsFirst p 1 rs o
-first_behind p over rs rest c o h e first ms B = first ms B ∙ same_behind p over rs rest c h e ms B
+pub first_after : (p : Test) → FailsOver p → (rs rest : List QueuedUpdate) (c : ℕ) (o : Option ℕ) → CommitsAtLeast rs c → rest ≡ drop c rs → IsFirst p (suc c) rest o → IsFirst p 1 rs o
+first_after p over rs rest c o h e first ms B = first ms B ∙ same_after p over rs rest c h e ms B
 
 -- What is over is neither ready nor deliverable.
 pub ready_fails : (M : Machine) (s : Settings) (c n : ℕ) (u : Update M) → is_over M u ≡ true → is_ready (standing M s c n u) ≡ false
@@ -250,18 +250,18 @@ deliverable_test s c ms B i u = is_deliverable (caused_chase ms B) s c i u
 abbrev pub besides_test : List ℕ → Settings → ℕ → Test
 besides_test ns s c ms B i u = is_ready (standing (caused_chase ms B) s c i u) && not (has_number ns i)
 
-pub ready_behind : (s : Settings) (rs rest : List QueuedUpdate) (c : ℕ) (o : Option ℕ) → HasCommitted rs c → rest ≡ drop c rs → IsFirst (ready_test s c) (suc c) rest o → IsFirst (ready_test s c) 1 rs o
-ready_behind s rs rest c o h e first = first_behind (ready_test s c) (λ ms B n u. ready_fails (caused_chase ms B) s c n u) rs rest c o (commits_so rs c h) e first
+pub ready_after : (s : Settings) (rs rest : List QueuedUpdate) (c : ℕ) (o : Option ℕ) → HasCommitted rs c → rest ≡ drop c rs → IsFirst (ready_test s c) (suc c) rest o → IsFirst (ready_test s c) 1 rs o
+ready_after s rs rest c o h e first = first_after (ready_test s c) (λ ms B n u. ready_fails (caused_chase ms B) s c n u) rs rest c o (commits_so rs c h) e first
 
-pub deliverable_behind : (s : Settings) (rs rest : List QueuedUpdate) (c : ℕ) (o : Option ℕ) → HasCommitted rs c → rest ≡ drop c rs → IsFirst (deliverable_test s c) (suc c) rest o → IsFirst (deliverable_test s c) 1 rs o
-deliverable_behind s rs rest c o h e first = first_behind (deliverable_test s c) (λ ms B n u. deliverable_fails (caused_chase ms B) s c n u) rs rest c o (commits_so rs c h) e first
+pub deliverable_after : (s : Settings) (rs rest : List QueuedUpdate) (c : ℕ) (o : Option ℕ) → HasCommitted rs c → rest ≡ drop c rs → IsFirst (deliverable_test s c) (suc c) rest o → IsFirst (deliverable_test s c) 1 rs o
+deliverable_after s rs rest c o h e first = first_after (deliverable_test s c) (λ ms B n u. deliverable_fails (caused_chase ms B) s c n u) rs rest c o (commits_so rs c h) e first
 
--- The first behind those that are committed is told, where it is deliverable.
-pub next_behind : (s : Settings) (rs rest : List QueuedUpdate) (c : ℕ) (o : Option ℕ) → HasCommitted rs c → rest ≡ drop c rs → IsNextOf s c rest o → IsNextDeliverable s rs o
-next_behind s rs rest c o h e next ms B =
+-- The first after those that are committed is told, where it is deliverable.
+pub next_after : (s : Settings) (rs rest : List QueuedUpdate) (c : ℕ) (o : Option ℕ) → HasCommitted rs c → rest ≡ drop c rs → IsNextOf s c rest o → IsNextDeliverable s rs o
+next_after s rs rest c o h e next ms B =
     let M = caused_chase ms B in
     next ms B
-    ∙ ap (only (suc c)) (same_behind (deliverable_test s c) (λ ms B n u. deliverable_fails (caused_chase ms B) s c n u) rs rest c (commits_so rs c h) e ms B)
+    ∙ ap (only (suc c)) (same_after (deliverable_test s c) (λ ms B n u. deliverable_fails (caused_chase ms B) s c n u) rs rest c (commits_so rs c h) e ms B)
     ∙ ap (λ (k : ℕ). only (suc k) (lowest_that {M = M} (λ i u. is_deliverable M s k i u) 1 (updates_of ms B rs))) (h ms B)
 
 -- The next place and the next number.

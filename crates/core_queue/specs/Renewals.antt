@@ -2,7 +2,7 @@
 use Rattle.std.specs.Prelude.{◌≡◌, ℕ, suc, ◌+◌, ◌<◌, ◌^◌, List, [], ◌∷◌, ◌++◌, map, take, drop, Option, Some, None, is_some, if◌then◌else◌}
 use Rattle.core_entries.specs.declared.causes.Cause.{Cause}
 use Rattle.def_machine.specs.Cascade as machine
-use Rattle.def_machine.specs.Cascade.{anew}
+use Rattle.def_machine.specs.Cascade.{begun_again}
 use Rattle.def_machine.specs.Settle.{restart}
 use Rattle.def_chase.specs.Mappings.{Rule}
 use Rattle.chase_update.specs.Courses.{State, between}
@@ -41,7 +41,7 @@ AreThere cs fs = map is_some fs ≡ map is_some cs
 
 -- The update begins its next attempt.
 abbrev pub HasRestarted : QueuedUpdate → QueuedUpdate → Type 0
-HasRestarted r r' = (ms : List Rule) (B : ℕ) → update_of ms B r' ≡ anew (caused_chase ms B) r.program.attempt.number (update_of ms B r)
+HasRestarted r r' = (ms : List Rule) (B : ℕ) → update_of ms B r' ≡ begun_again (caused_chase ms B) r.program.attempt.number (update_of ms B r)
 
 -- From place k on, the updates for which there is a next attempt begin it.
 abbrev pub HaveRestarted : ℕ → List (Option State) → List QueuedUpdate → List QueuedUpdate → Type 0
@@ -52,4 +52,4 @@ HaveRestarted k fs rs rs' =
 -- The update begins its next attempt if there is one, and else stays as it is.
 abbrev pub HasRestartedIf : Option State → QueuedUpdate → QueuedUpdate → Type 0
 HasRestartedIf f r r' =
-    (ms : List Rule) (B : ℕ) → update_of ms B r' ≡ (if is_some f then anew (caused_chase ms B) r.program.attempt.number (update_of ms B r) else update_of ms B r)
+    (ms : List Rule) (B : ℕ) → update_of ms B r' ≡ (if is_some f then begun_again (caused_chase ms B) r.program.attempt.number (update_of ms B r) else update_of ms B r)

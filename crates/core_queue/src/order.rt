@@ -23,7 +23,7 @@ pub fn committed_from(queue: &[QueuedUpdate], least: u32) -> u32
     requires least { CommitsAtLeast queue.now least }
     ensures committed { HasCommitted queue.now result }
 {
-    counted(behind(queue, least), least)
+    counted(after(queue, least), least)
 }
 
 /// The least number of a ready update, if one is ready, given that at least `least` updates are committed.
@@ -33,7 +33,7 @@ pub fn lowest_ready(queue: &[QueuedUpdate], settings: Settings, least: u32) -> O
     ensures lowest { IsLowestReady (settings_of settings) queue.now result }
 {
     let committed = committed_from(queue, least);
-    first_ready(behind(queue, committed), settings, committed)
+    first_ready(after(queue, committed), settings, committed)
 }
 
 /// The least number of an update to which a recorded answer may be delivered, if there is one, given that at least `least`
@@ -44,7 +44,7 @@ pub fn lowest_deliverable(queue: &[QueuedUpdate], settings: Settings, least: u32
     ensures lowest { IsLowestDeliverable (settings_of settings) queue.now result }
 {
     let committed = committed_from(queue, least);
-    first_deliverable(behind(queue, committed), settings, committed)
+    first_deliverable(after(queue, committed), settings, committed)
 }
 
 /// The first update that is not committed, if a recorded answer may be delivered to it, given that at least `least` updates are
@@ -57,7 +57,7 @@ pub fn next_deliverable(queue: &[QueuedUpdate], settings: Settings, least: u32) 
         (λ n. IsLowestDeliverable (settings_of settings) queue.now (Some n)) }
 {
     let committed = committed_from(queue, least);
-    deliverable_at_once(behind(queue, committed), settings, committed)
+    deliverable_at_once(after(queue, committed), settings, committed)
 }
 
 /// The least number of a ready update that is none of `numbers`, if there is one. At least `least` updates are committed, and
@@ -85,7 +85,7 @@ pub fn is_quiet(queue: &[QueuedUpdate], settings: Settings, least: u32) -> bool
     ensures quiet { IsQuiet (settings_of settings) queue.now result }
 {
     let committed = committed_from(queue, least);
-    let rest = behind(queue, committed);
+    let rest = after(queue, committed);
     let none_ready = is_none(first_ready(rest, settings, committed));
     let none_deliverable = is_none(first_deliverable(rest, settings, committed));
     none_ready && none_deliverable
@@ -93,7 +93,7 @@ pub fn is_quiet(queue: &[QueuedUpdate], settings: Settings, least: u32) -> bool
 
 #[tactic(auto, using(crate::proofs::Walking::long_enough))]
 // The updates after the first `first`.
-fn behind(queue: &[QueuedUpdate], first: u32) -> &[QueuedUpdate]
+fn after(queue: &[QueuedUpdate], first: u32) -> &[QueuedUpdate]
     requires first { CommitsAtLeast queue.now first }
     ensures rest { result.now ≡ drop first queue.now }
 {

@@ -18,7 +18,7 @@ impl QueuedUpdate {
         requires more { HasOneMore self.now }
         ensures fresh { IfOk result (IsFresh self.now) }
     {
-        self.program.anew(alloc)
+        self.program.begun_again(alloc)
     }
 
     /// Begins the next attempt: the update loses its writes and its log, and keeps its answers.

@@ -22,7 +22,7 @@ use Rattle.core_queue.proofs.Walking.{stands_here}
 use Rattle.core_queue.specs.declared.updates.QueuedUpdate.{QueuedUpdate}
 use Rattle.core_result.specs.Told.{finishes_told, end_told, HasToldOne, outer_stop, stop_told, IsStopAt, IsStop}
 
--- What is left of a queue is the queued update at the place, and what is left behind it.
+-- What is left of a queue is the queued update at the place, and what is left after it.
 pub left_of : (rs : List QueuedUpdate) (i : ℕ) (r : QueuedUpdate) → i < length rs → r ≡ get_or rs i r → drop i rs ≡ r ∷ drop (i + 1) rs
 left_of rs i r h e = drop_more rs i r h ∙ ap (λ (x : QueuedUpdate). x ∷ drop (i + 1) rs) (sym e)
 
@@ -39,7 +39,7 @@ module _ (ms : List Rule) (B : ℕ) where
   by_withdrawn true n u fs = refl
   by_withdrawn false n u fs = map_join finish_in (finished n u.state) (flat_map told_of fs)
 
-  -- of one that is over, and those behind it
+  -- of one that is over, and those after it
   one_told : (n : ℕ) (u : Update (caused_chase ms B)) (us : List (Update (caused_chase ms B))) → is_over (caused_chase ms B) u ≡ true
       → finishes_told ms B n (u ∷ us) ≡ end_told ms B n u ++ finishes_told ms B (suc n) us
   one_told n u us e =

@@ -14,7 +14,7 @@ pub(crate) fn repository(
     versions: &Versions,
     number: u32,
 ) -> Result<TupleList, Memory>
-    ensures told { IfOk result (AreAnswered (seen number versions.now)) }
+    ensures answered { IfOk result (AreAnswered (seen number versions.now)) }
 {
     let mut sweep = versions.below(number).sweep();
     let mut forms = TupleList::new(alloc);

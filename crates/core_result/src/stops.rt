@@ -52,7 +52,8 @@ fn stop_at(
 
 // The question in outer form.
 fn outer_form(alloc: Global, question: &Question) -> Result<Question, Memory>
-    ensures told { IfOk result (λ form. inquiry_of form ≡ outer_inquiry (inquiry_of question.now)) }
+    ensures outer { IfOk result (λ form.
+        inquiry_of form ≡ outer_inquiry (inquiry_of question.now)) }
 {
     match question {
         Question::Positive {
@@ -73,7 +74,7 @@ fn outer_form(alloc: Global, question: &Question) -> Result<Question, Memory>
 
 // The tuples in outer form.
 fn outer_forms(alloc: Global, tuples: &TupleList) -> Result<TupleList, Memory>
-    ensures told { IfOk result (λ forms. facts_of forms ≡ map outer (facts_of tuples.now)) }
+    ensures outer { IfOk result (λ forms. facts_of forms ≡ map outer (facts_of tuples.now)) }
 {
     let mut forms = TupleList::new(alloc);
     for tuple in tuples.as_slice() {

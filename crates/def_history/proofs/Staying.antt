@@ -73,7 +73,7 @@ events_split : (M : Machine) (H J : List (Entry M)) → map event_of (H ++ J) �
 events_split M [] J = refl
 events_split M (d ∷ H) J = ap (λ es. event_of d ∷ es) (events_split M H J)
 
--- what is at a place is not behind the list
+-- what is at a place is not after the list
 there_below : {A : Type 0} (us : List A) (k : ℕ) (u : A) → slice_get us k ≡ Some u → suc k ≡ suc (length us) → ⊥
 there_below [] k u h e = none-some u h
 there_below (x ∷ us) zero u h e = absurd (omega (arith, e))

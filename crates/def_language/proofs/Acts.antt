@@ -31,7 +31,7 @@ module _ (relations : List RelationSchema) (names : AreNames (relation_names rel
   choice_means most (Drop ts) good =
       rw (each_again (bounded_fact relations most) (written_fact relations) (IsFact relations most) (λ t g. fact_means relations most t names g) ts good.1) refl
 
--- what stands behind others stands at the place of their number
+-- what stands after others stands at the place of their number
 pub get_seam : {A : Type 0} (xs : List A) (y : A) (ys : List A) → slice_get (xs ++ y ∷ ys) (length xs) ≡ Some y
 get_seam [] y ys = refl
 get_seam (x ∷ xs) y ys = get_seam xs y ys
@@ -68,7 +68,7 @@ module _ (f : ℕ) (relations : List RelationSchema) (mappings : List SessionMap
       let e : (given ++ choice ∷ []) ++ rest ≡ given ++ choice ∷ rest = append_assoc given (choice ∷ []) rest in
       let others = answers_run (given ++ choice ∷ []) rest all.1 (omega (arith, length-append given (choice ∷ []))) in (
         record {
-          behind = tt;
+          after_header = tt;
           begun = omega arith;
           open_ = omega arith;
           in_order = omega arith;

@@ -86,7 +86,7 @@ facts_again : (facts : List WrittenFact) → 1 ≤ length facts → AllByRecursi
 unfolding facts_at
 facts_again facts some all = rw (to_the_end last_fact fact_words IsWrittenFact facts_read facts some all) refl
 
--- a fact, where the line ends behind it
+-- a fact, where the line ends after it
 whole_again : (fact : WrittenFact) → IsWrittenFact fact → whole (fact_at (fact_words fact)) ≡ Ok fact
 unfolding whole end_at
 whole_again fact good = rw (ap fact_at (sym (append-nil (fact_words fact))) ∙ fact_again fact [] good) refl

@@ -32,7 +32,7 @@ so_far f relations mappings base updates = record { format = f; relations = rela
 pub room_left : (n most : ℕ) → n < most → nat_le most n ≡ false
 room_left n most lt = grind (arith, nat_tests)
 
--- names behind one more
+-- names after one more
 pub next_names : {A : Type 0} (called : A → Name) (before : List A) (x : A) (names : List Name) → AreNew (map called before ++ called x ∷ []) names → AreNew (map called (before ++ x ∷ [])) names
 next_names called before x names new = subst (λ (ns : List Name). AreNew ns names) (sym (map-append called before (x ∷ []))) new
 
@@ -41,7 +41,7 @@ next_names called before x names new = subst (λ (ns : List Name). AreNew ns nam
 relation_fits : (f : ℕ) (r : RelationSchema) → IsName r.name → IsRelation r → Fits Relations f (Relation r.name (pos r.arity))
 relation_fits f r named good =
     let high : r.arity ≤ 8 = good.1 in
-    record { behind = tt; begun = omega arith; open_ = omega arith; in_order = omega arith; sayable = tt; words = ((refl, tt), ((named, tt), ((omega arith, tt), tt))); members = tt }
+    record { after_header = tt; begun = omega arith; open_ = omega arith; in_order = omega arith; sayable = tt; words = ((refl, tt), ((named, tt), ((omega arith, tt), tt))); members = tt }
 
 relation_added : (f : ℕ) (before : List RelationSchema) (r : RelationSchema) → is_one_of (relation_names before) r.name ≡ false → IsRelation r → length before < most_relations f
     → taken (so_far f before [] [] []) (Relation r.name (pos r.arity)) ≡ Ok (so_far f (before ++ r ∷ []) [] [] [])
@@ -99,7 +99,7 @@ module _ (f : ℕ) (relations : List RelationSchema) (names : AreNames (relation
       let others = mappings_run Mappings (before ++ m ∷ []) ms (omega arith) (omega arith) (next_names (λ (x : SessionMapping). x.name) before m (mapping_names ms) new.2) all.1 initial.1 (omega (arith, length-append before (m ∷ [])))
       (λ c. none (subst (λ (xs : List SessionMapping). HasPlainCycle (length relations) (rules_of xs)) e c)) in
       let added = mapping_added (so_far f relations before [] []) m names all.0 new.1 (initial_room before m.rule.since initial.0 (omega arith)) (front_acyclic (length relations) before m ms none) in (
-        record { behind = tt; begun = low; open_ = omega arith; in_order = high; sayable = mapping_sayable relations names some m all.0; words = ((refl, tt), mapping_printed relations names some m all.0 new.0); members = mapping_members relations names some m all.0 },
+        record { after_header = tt; begun = low; open_ = omega arith; in_order = high; sayable = mapping_sayable relations names some m all.0; words = ((refl, tt), mapping_printed relations names some m all.0 new.0); members = mapping_members relations names some m all.0 },
         (
           so_far f relations (before ++ m ∷ []) [] [],
           subst (λ since. add_mapping (so_far f relations before [] []) since (written_mapping relations m) ≡ Ok (so_far f relations (before ++ m ∷ []) [] [])) initial.0 added,
@@ -122,7 +122,7 @@ and_false : (b : Bool) → (b && false) ≡ false
 and_false true = refl
 and_false false = refl
 
--- a tuple behind all others
+-- a tuple after all others
 insert_last : (before : List Fact) (t : Fact) → AllByRecursion (λ x. fact_cmp x t ≡ Less) before → insert_key fact_cmp before t ≡ before ++ t ∷ []
 insert_last [] t all = refl
 insert_last (x ∷ before) t all =
@@ -152,7 +152,7 @@ module _ (f : ℕ) (relations : List RelationSchema) (mappings : List SessionMap
       let e : (before ++ t ∷ []) ++ ts ≡ before ++ t ∷ ts = append_assoc before (t ∷ []) ts in
       let others = base_run Tuples (before ++ t ∷ []) ts (record { low = omega arith; high = omega arith }) (subst (IsStrictlySortedBy fact_cmp) (sym e) sorted) all.1 (omega (arith, length-append before (t ∷ []))) in
       let high : rank section ≤ 3 = w.high in (
-        record { behind = tt; begun = w.low; open_ = omega arith; in_order = w.high; sayable = fact_sayable relations names some 0 t all.0; words = ((refl, tt), fact_printed relations names some 0 (omega arith) t all.0); members = (fact_sayable relations names some 0 t all.0).0 },
+        record { after_header = tt; begun = w.low; open_ = omega arith; in_order = w.high; sayable = fact_sayable relations names some 0 t all.0; words = ((refl, tt), fact_printed relations names some 0 (omega arith) t all.0); members = (fact_sayable relations names some 0 t all.0).0 },
         (
           so_far f relations mappings (before ++ t ∷ []) [],
           tuple_added before t all.0 (below_next before t ts sorted) (omega arith),

@@ -24,17 +24,17 @@ at_seam (m ∷ before) n rest new =
     let parts = or_parts (same_name n m) (is_one_of before n) new in
     rw (parts.0, at_seam before n rest parts.1) (omega arith)
 
-place_behind : (before names : List Name) (v : ℕ) → AreNew before names → v < length names → place_of (before ++ names) (name_of names v) ≡ length before + v
-place_behind before [] v new lt = absurd (omega arith)
-place_behind before (n ∷ names) zero new lt = let e : length before ≡ length before + 0 = omega arith in at_seam before n names new.1 ∙ e
-place_behind before (n ∷ names) (suc v) new lt =
+place_after : (before names : List Name) (v : ℕ) → AreNew before names → v < length names → place_of (before ++ names) (name_of names v) ≡ length before + v
+place_after before [] v new lt = absurd (omega arith)
+place_after before (n ∷ names) zero new lt = let e : length before ≡ length before + 0 = omega arith in at_seam before n names new.1 ∙ e
+place_after before (n ∷ names) (suc v) new lt =
     let e : (before ++ n ∷ []) ++ names ≡ before ++ n ∷ names = append_assoc before (n ∷ []) names in
     let m : length (before ++ n ∷ []) + v ≡ length before + suc v = omega (arith, length-append before (n ∷ [])) in
-    ap (λ (ns : List Name). place_of ns (name_of names v)) (sym e) ∙ place_behind (before ++ n ∷ []) names v new.2 (omega arith) ∙ m
+    ap (λ (ns : List Name). place_of ns (name_of names v)) (sym e) ∙ place_after (before ++ n ∷ []) names v new.2 (omega arith) ∙ m
 
 -- names that differ are found at their places
 pub place_again : (names : List Name) (v : ℕ) → AreNames names → v < length names → place_of names (name_of names v) ≡ v
-place_again names v all lt = let e : 0 + v ≡ v = omega arith in place_behind [] names v all lt ∙ e
+place_again names v all lt = let e : 0 + v ≡ v = omega arith in place_after [] names v all lt ∙ e
 
 -- they are the same where their places are
 pub same_places : (names : List Name) (v w : ℕ) → AreNames names → v < length names → w < length names → same_name (name_of names v) (name_of names w) ≡ (v == w)

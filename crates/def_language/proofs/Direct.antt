@@ -11,16 +11,16 @@ use Rattle.def_language.specs.Layout.{spelled, is_open, is_tight, gap, laid_out}
 use Rattle.def_language.specs.Printing.{value_text, joined_text}
 use Rattle.def_language.specs.Texts.{applied_text, fact_text, term_text, atom_text, sides_text, operation_text, choice_text, statement_text, HasValue, HasTerm, HasSides, OperationHasMembers, ChoiceHasMembers, HasMembers}
 
--- words that are laid out behind others
-laid_behind : (xs : List Word) (w v : Word) (ys : List Word) → laid_out ((xs ++ w ∷ []) ++ v ∷ ys) ≡ laid_out (xs ++ w ∷ []) ++ (gap w v ++ laid_out (v ∷ ys))
+-- words that are laid out after others
+laid_after : (xs : List Word) (w v : Word) (ys : List Word) → laid_out ((xs ++ w ∷ []) ++ v ∷ ys) ≡ laid_out (xs ++ w ∷ []) ++ (gap w v ++ laid_out (v ∷ ys))
 unfolding laid_out
-laid_behind [] w v ys = refl
-laid_behind (x ∷ []) w v ys =
+laid_after [] w v ys = refl
+laid_after (x ∷ []) w v ys =
     let a : List ℕ = gap x w in
     let b : List ℕ = gap w v ++ laid_out (v ∷ ys) in
     sym (append_assoc (spelled x) (gap x w ++ spelled w) (gap w v ++ laid_out (v ∷ ys)) ∙ ap (λ (bs : List ℕ). spelled x ++ bs) (append_assoc (gap x w) (spelled w) (gap w v ++ laid_out (v ∷ ys))))
-laid_behind (x ∷ y ∷ xs) w v ys =
-    let others = laid_behind (y ∷ xs) w v ys in
+laid_after (x ∷ y ∷ xs) w v ys =
+    let others = laid_after (y ∷ xs) w v ys in
     let front : List ℕ = laid_out (y ∷ (xs ++ w ∷ [])) in
     ap (λ (bs : List ℕ). spelled x ++ (gap x y ++ bs)) others
     ∙ sym (append_assoc (spelled x) (gap x y ++ laid_out (y ∷ (xs ++ w ∷ []))) (gap w v ++ laid_out (v ∷ ys)) ∙ ap (λ (bs : List ℕ). spelled x ++ bs) (append_assoc (gap x y) (laid_out (y ∷ (xs ++ w ∷ []))) (gap w v ++ laid_out (v ∷ ys))))
@@ -113,10 +113,10 @@ atom_applied atom = record {
   back = refl;
 }
 
--- a comma or an arrow behind what ends in a parenthesis
-behind_applied : (words : List Word) (w : Word) (ys : List Word) → Applied words → laid_out (words ++ w ∷ ys) ≡ laid_out words ++ (gap closes w ++ laid_out (w ∷ ys))
-behind_applied words w ys a =
-    ap (λ (ws : List Word). laid_out (ws ++ w ∷ ys)) a.back ∙ laid_behind a.before closes w ys ∙ ap (λ (ws : List Word). laid_out ws ++ (gap closes w ++ laid_out (w ∷ ys))) (sym a.back)
+-- a comma or an arrow after what ends in a parenthesis
+after_applied : (words : List Word) (w : Word) (ys : List Word) → Applied words → laid_out (words ++ w ∷ ys) ≡ laid_out words ++ (gap closes w ++ laid_out (w ∷ ys))
+after_applied words w ys a =
+    ap (λ (ws : List Word). laid_out (ws ++ w ∷ ys)) a.back ∙ laid_after a.before closes w ys ∙ ap (λ (ws : List Word). laid_out ws ++ (gap closes w ++ laid_out (w ∷ ys))) (sym a.back)
 
 comma_before : (words : List Word) → Applied words → laid_out (comma ∷ words) ≡ 44 ∷ 32 ∷ laid_out words
 unfolding laid_out
@@ -139,7 +139,7 @@ module _ {A : Type 0} (words : A → List Word) (directly : A → List ℕ) (Goo
   list_laid : (x : A) (xs : List A) → AllByRecursion Good (x ∷ xs) → laid_out (separated words (x ∷ xs)) ≡ joined_text directly (x ∷ xs)
   list_laid x [] all = laid x all.0 ∙ sym (append-nil (directly x))
   list_laid x (y ∷ xs) all =
-      behind_applied (words x) comma (separated words (y ∷ xs)) (applied x) ∙ ap (λ (bs : List ℕ). laid_out (words x) ++ bs) (comma_before (separated words (y ∷ xs)) (list_applied y xs) ∙ ap (λ (bs : List ℕ). 44 ∷ 32 ∷ bs) (list_laid y xs all.1))
+      after_applied (words x) comma (separated words (y ∷ xs)) (applied x) ∙ ap (λ (bs : List ℕ). laid_out (words x) ++ bs) (comma_before (separated words (y ∷ xs)) (list_applied y xs) ∙ ap (λ (bs : List ℕ). 44 ∷ 32 ∷ bs) (list_laid y xs all.1))
       ∙ ap (λ (bs : List ℕ). bs ++ (44 ∷ 32 ∷ joined_text directly (y ∷ xs))) (laid x all.0)
 
   some_applied : (xs : List A) → 1 ≤ length xs → Applied (separated words xs)
@@ -167,7 +167,7 @@ sides_laid m good =
     let arrow_first : laid_out (arrow ∷ separated atom_words m.right) ≡ 45 ∷ 62 ∷ 32 ∷ laid_out (separated atom_words m.right) =
     ap (λ (ws : List Word). laid_out (arrow ∷ ws)) r.front ∙ ap (λ (ws : List Word). 45 ∷ 62 ∷ 32 ∷ laid_out ws) (sym r.front) in
     let inside : laid_out (separated atom_words m.left ++ arrow ∷ separated atom_words m.right) ≡ joined_text atom_text m.left ++ (codes " -> " ++ joined_text atom_text m.right) =
-    behind_applied (separated atom_words m.left) arrow (separated atom_words m.right) l
+    after_applied (separated atom_words m.left) arrow (separated atom_words m.right) l
     ∙ ap (λ (bs : List ℕ). laid_out (separated atom_words m.left) ++ (32 ∷ bs)) (arrow_first ∙ ap (λ (bs : List ℕ). 45 ∷ 62 ∷ 32 ∷ bs) (some_laid atom_words atom_text HasTerm atom_applied atom_laid m.right good.1.0 good.1.1))
     ∙ ap (λ (bs : List ℕ). bs ++ (codes " -> " ++ joined_text atom_text m.right)) (some_laid atom_words atom_text HasTerm atom_applied atom_laid m.left good.0.0 good.0.1) in
     let front : separated atom_words m.left ++ arrow ∷ separated atom_words m.right ≡ name l.called ∷ (l.inside ++ arrow ∷ separated atom_words m.right) = ap (λ (ws : List Word). ws ++ arrow ∷ separated atom_words m.right) l.front in

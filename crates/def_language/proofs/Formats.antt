@@ -1,4 +1,4 @@
--- A statement behind the header leaves the format of the session.
+-- A statement after the header leaves the format of the session as it is.
 use Rattle.std.proofs.Common.{◌≡◌, ℕ, ℤ, ap, sym, ◌∙◌, [], ◌∷◌, length, not, ◌&&◌}
 use Rattle.std.specs.Prelude.{◌+◌, Ok, Option, Some, None, slice_get, nat_le}
 use Rattle.def_chase.specs.Values.{Unknown}

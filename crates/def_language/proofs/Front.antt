@@ -1,4 +1,4 @@
--- What spells a word is the longest token at the front, where nothing behind it goes on with it.
+-- What spells a word is the longest token at the front, where nothing after it goes on with it.
 use Rattle.std.proofs.Common.{◌≡◌, ℕ, suc, ◌+◌, ◌^◌, ◌<◌, ◌≤◌, Bool, true, false, List, [], ◌∷◌, ◌++◌, length, refl, sym, ap, ◌∙◌, arith, rules, append_assoc, length-append}
 use Rattle.std.specs.Prelude.{Result, Ok, ℤ, pos, negsuc, ◌==◌, nat_lt, nat_le}
 use Rattle.std.specs.Fmt.{decimal, signed_decimal}

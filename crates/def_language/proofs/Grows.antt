@@ -19,7 +19,7 @@ use Rattle.def_language.specs.Sessions.{RelationSchema, SessionMapping, SessionU
 use Rattle.def_language.specs.Checks.{unused, within, curators_full}
 use Rattle.def_language.specs.Validity.{IsName, AreNames, IsUpdate, AreUpdates, enacted, enactments, sinces}
 use Rattle.def_language.proofs.Only.{choose}
-use Rattle.def_language.proofs.Placed.{new_behind}
+use Rattle.def_language.proofs.Placed.{new_after}
 
 -- ---- checks that were passed
 
@@ -40,7 +40,7 @@ room_ok most n e = grind (arith, nat_tests)
 -- ---- names
 
 pub names_grow : {A : Type 0} (called : A → Name) (xs : List A) (x : A) → AreNames (map called xs) → IsName (called x) → is_one_of (map called xs) (called x) ≡ false → AreNames (map called (xs ++ x ∷ []))
-names_grow called xs x all good new = subst AreNames (sym (map-append called xs (x ∷ []))) (new_behind [] (map called xs) (called x) all good new)
+names_grow called xs x all good new = subst AreNames (sym (map-append called xs (x ∷ []))) (new_after [] (map called xs) (called x) all good new)
 
 pub all_grow : {A : Type 0} (P : A → Type 0) (xs : List A) (x : A) → AllByRecursion P xs → P x → AllByRecursion P (xs ++ x ∷ [])
 all_grow P [] x all good = (good, tt)

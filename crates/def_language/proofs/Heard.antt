@@ -37,7 +37,7 @@ escape : (o p b c : ℕ) (rest : List ℕ) → (b == 34) ≡ false → (b == 92)
 unfolding text_from
 escape o p b c rest e f = rw (e, f) refl
 
--- a text that is whole is read the same where more stands behind it
+-- a text that is whole is read the same where more follows it
 abbrev Longer : ℕ → ℕ → List ℕ → List ℕ → Type 0
 Longer o p bytes more = (x : List ℕ × ℕ) → text_from o p bytes ≡ Ok x → text_from o p (bytes ++ more) ≡ Ok x
 
@@ -77,7 +77,7 @@ high_said o p (b ∷ bytes) rest x all e =
 low_text : (b : ℕ) (t : List ℕ) → nat_lt b 128 ≡ true → IsUtf8 t → IsUtf8 (b ∷ t)
 low_text b t low u = IsUtf8-append (b ∷ []) t (ascii_is_text (b ∷ []) (rw low refl)) u
 
--- what a byte stands for behind a backslash is ASCII, and so is the byte
+-- what a byte stands for after a backslash is ASCII, and so is the byte
 escaped_low : (c d : ℕ) → escaped c ≡ Some d → (nat_lt c 128 ≡ true) × (nat_lt d 128 ≡ true)
 escaped_low c d e = by (c == 34) (c == 92) (c == 110) refl refl refl where
   low : (n : ℕ) → n < 128 → nat_lt n 128 ≡ true
@@ -121,7 +121,7 @@ high_first c high =
     let all : AllByRecursion (λ b. 128 ≤ b) (s.0 ∷ s.1) = subst (AllByRecursion (λ b. 128 ≤ b)) s.2 (high_bytes c high) in
     record { first = s.0; others = s.1; is = s.2; high = all.0 }
 
--- what a text says, where its bytes and those behind it are characters
+-- what a text says, where its bytes and those after it are characters
 abbrev Said : List ℕ → Type 0
 Said cs = (o p : ℕ) (x : List ℕ × ℕ) → all_scalars cs ≡ true → text_from o p (encode_utf8_all cs) ≡ Ok x → IsUtf8 x.0
 
@@ -139,10 +139,10 @@ escaped_said o p rest (Some b) x e =
     let s = says_ok b 2 (text_from o (p + 2) rest) x e in
     (b, s.0, refl, s.1, ap (λ (z : List ℕ × ℕ). z.0) s.2)
 
-behind_escape : (o p b : ℕ) (rest : List ℕ) → (b == 34) ≡ false → (b == 92) ≡ true → ((d : ℕ) (cs : List ℕ) → rest ≡ d ∷ cs → Said cs) → (cs : List ℕ) → cs ≡ rest → (x : List ℕ × ℕ) → all_scalars cs ≡ true
+after_escape : (o p b : ℕ) (rest : List ℕ) → (b == 34) ≡ false → (b == 92) ≡ true → ((d : ℕ) (cs : List ℕ) → rest ≡ d ∷ cs → Said cs) → (cs : List ℕ) → cs ≡ rest → (x : List ℕ × ℕ) → all_scalars cs ≡ true
     → text_from o p (b ∷ encode_utf8_all cs) ≡ Ok x → IsUtf8 x.0
-behind_escape o p b rest f g others [] is x all e = absurd (no_escape o p b x f e)
-behind_escape o p b rest f g others (d ∷ cs) is x all e = by (nat_lt d 128) refl where
+after_escape o p b rest f g others [] is x all e = absurd (no_escape o p b x f e)
+after_escape o p b rest f g others (d ∷ cs) is x all e = by (nat_lt d 128) refl where
   parts : (scalar d ≡ true) × (all_scalars cs ≡ true)
   parts = and_parts (scalar d) (all_scalars cs) all
 
@@ -177,7 +177,7 @@ character_said c rest further others o p x all e = by (nat_lt c 128) refl where
       let is : r start ≡ r x = sym (closing o p c (encode_utf8_all rest) f) ∙ bytes in
       let same : start ≡ x = cc in
       subst IsUtf8 (ap (λ (z : List ℕ × ℕ). z.0) same) IsUtf8-nil
-  at false true f g low bytes = behind_escape o p c rest f g others rest refl x parts.1 bytes
+  at false true f g low bytes = after_escape o p c rest f g others rest refl x parts.1 bytes
   at false false f g low bytes =
       let s = says_ok c 1 (text_from o (p + 1) (encode_utf8_all rest)) x (sym (plain o p c (encode_utf8_all rest) f g) ∙ bytes) in
       subst IsUtf8 (sym (ap (λ (z : List ℕ × ℕ). z.0) s.2)) (low_text c s.0.0 low (further o (p + 1) s.0 parts.1 s.1))

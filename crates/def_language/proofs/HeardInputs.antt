@@ -16,8 +16,8 @@ use Rattle.def_language.proofs.Bound.{ok_is, Only}
 use Rattle.def_language.proofs.Formats.{format_kept}
 use Rattle.def_language.proofs.Steps.{at_line, Heard, Blank, Spoke, numbered_ok, first_line}
 
--- behind the header, in this section and with this session in hand
-pub record Behind (f : ℕ) (section : Section) (a : SessionData) (lines : List (List ℕ)) (s : SessionData) : Type 0 where
+-- after the header, in this section and with this session in hand
+pub record AfterHeader (f : ℕ) (section : Section) (a : SessionData) (lines : List (List ℕ)) (s : SessionData) : Type 0 where
   pub statements : List Statement
   pub say : Say lines (statements ++ End ∷ [])
   pub in_order : AreInOrder section statements
@@ -28,7 +28,7 @@ pub record Behind (f : ℕ) (section : Section) (a : SessionData) (lines : List 
 abbrev ReadsOn : ℕ → ℕ → State → List (List ℕ) → SessionData → Type 0
 ReadsOn n start state lines s = lines_from n start state lines ≡ Ok s
 
--- ---- behind the end
+-- ---- after the end
 
 ended_with : Only → (n start : ℕ) (a s : SessionData) (lines : List (List ℕ)) → ReadsOn n start (at_line Ended a) lines s → Say lines [] × (a ≡ s)
 unfolding lines_from
@@ -43,7 +43,7 @@ ended_with only n start a s (line ∷ lines) e =
         let r = rest (n + 1) (start + length line + 1) (subst (λ (x : State). ReadsOn (n + 1) (start + length line + 1) x lines s) (sym i) k) in (blank w r.0, r.1)
     by next (Spoke w h) k rest = let lt : rank Ended < 5 = h.open_ in absurd (omega (arith, lt))
 
--- ---- behind the header
+-- ---- after the header
 
 not_closed : (section : Section) (a s : SessionData) → rank section < 5 → closed section a ≡ Ok s → ⊥
 not_closed Ended a s lt e = absurd (omega (arith, lt))
@@ -62,14 +62,14 @@ same_session : (a b : SessionData) → a ≡ b → taken_all a [] ≡ Ok b
 same_session a b e = let h : taken_all a [] ≡ Ok a = refl in subst (λ (x : SessionData). taken_all a [] ≡ Ok x) e h
 
 module _ (only : Only) (f : ℕ) (lines : List (List ℕ)) (s : SessionData) where
-  -- how it goes on from any state behind the header
+  -- how it goes on from any state after the header
   abbrev Rest : Type 0
-  Rest = (m place : ℕ) (section : Section) (b : SessionData) → b.format ≡ f → 1 ≤ rank section → rank section < 5 → ReadsOn m place (at_line section b) lines s → Behind f section b lines s
+  Rest = (m place : ℕ) (section : Section) (b : SessionData) → b.format ≡ f → 1 ≤ rank section → rank section < 5 → ReadsOn m place (at_line section b) lines s → AfterHeader f section b lines s
 
   module _ (section : Section) (a : SessionData) (line : List ℕ) (format : a.format ≡ f) (lo : 1 ≤ rank section) (m place : ℕ) (b : SessionData) where
     -- a statement between header and end
     inner : (st : Statement) → IsInner st → 1 ≤ rank (section_of st) → rank (section_of st) < 5 → words_at line ≡ Ok (statement_words st) → IsSayable a.format st → MayStand section st
-        → taken a st ≡ Ok b → ReadsOn m place (at_line (section_of st) b) lines s → Rest → Behind f section a (line ∷ lines) s
+        → taken a st ≡ Ok b → ReadsOn m place (at_line (section_of st) b) lines s → Rest → AfterHeader f section a (line ∷ lines) s
     inner st between low high w sayable stands taken_so k rest =
         let r = rest m place (section_of st) b (format_kept a b st between taken_so ∙ format) low high k in
         record {
@@ -81,7 +81,7 @@ module _ (only : Only) (f : ℕ) (lines : List (List ℕ)) (s : SessionData) whe
         }
 
     said : (st : Statement) → words_at line ≡ Ok (statement_words st) → IsSayable a.format st → MayStand section st → taken a st ≡ Ok b → ReadsOn m place (at_line (section_of st) b) lines s
-        → Rest → Behind f section a (line ∷ lines) s
+        → Rest → AfterHeader f section a (line ∷ lines) s
     said (Header g) w sayable stands t k rest = absurd (no_header section g lo stands)
     said End w sayable stands t k rest =
         let r = ended_with only m place b s lines k in
@@ -93,7 +93,7 @@ module _ (only : Only) (f : ℕ) (lines : List (List ℕ)) (s : SessionData) whe
     said (Answer label choice) w sayable stands t k rest = inner (Answer label choice) tt (omega arith) (omega arith) w sayable stands t k rest
 
   heard : (section : Section) (a : SessionData) (line : List ℕ) → a.format ≡ f → 1 ≤ rank section → rank section < 5 → (m place : ℕ) (next : State) → Heard section a line next
-      → ReadsOn m place next lines s → Rest → Behind f section a (line ∷ lines) s
+      → ReadsOn m place next lines s → Rest → AfterHeader f section a (line ∷ lines) s
   heard section a line format lo hi m place next (Blank w i) k rest =
       let r = rest m place section a format lo hi (subst (λ (x : State). ReadsOn m place x lines s) (sym i) k) in
       record { statements = r.statements; say = blank w r.say; in_order = r.in_order; sayable = r.sayable; checked = r.checked }
@@ -101,14 +101,14 @@ module _ (only : Only) (f : ℕ) (lines : List (List ℕ)) (s : SessionData) whe
       said section a line format lo m place h.session h.statement (w ∙ ap (λ ws. Ok ws) h.words) h.sayable h.stands h.taken_so
       (subst (λ (x : State). ReadsOn m place x lines s) (sym h.is) k) rest
 
-pub behind : Only → (f n start : ℕ) (section : Section) (a : SessionData) (lines : List (List ℕ)) (s : SessionData) → a.format ≡ f → 1 ≤ rank section → rank section < 5
-    → ReadsOn n start (at_line section a) lines s → Behind f section a lines s
+pub after_header : Only → (f n start : ℕ) (section : Section) (a : SessionData) (lines : List (List ℕ)) (s : SessionData) → a.format ≡ f → 1 ≤ rank section → rank section < 5
+    → ReadsOn n start (at_line section a) lines s → AfterHeader f section a lines s
 unfolding lines_from
-behind only f n start section a [] s format lo hi e = absurd (not_closed section a s hi (numbered_ok n (closed section a) s e))
-behind only f n start section a (line ∷ lines) s format lo hi e =
+after_header only f n start section a [] s format lo hi e = absurd (not_closed section a s hi (numbered_ok n (closed section a) s e))
+after_header only f n start section a (line ∷ lines) s format lo hi e =
     let r = first_line only n start section a line lines s e in
     heard only f lines s section a line format lo hi (n + 1) (start + length line + 1) r.next r.heard r.others
-    (λ m place σ b g l h k. behind only f m place σ b lines s g l h k)
+    (λ m place σ b g l h k. after_header only f m place σ b lines s g l h k)
 
 -- ---- from the beginning
 
@@ -125,7 +125,7 @@ header_said : Only → (a : SessionData) (line : List ℕ) (lines : List (List �
     → IsSayable a.format st → MayStand Beginning st → taken a st ≡ Ok b → ReadsOn m place (at_line (section_of st) b) lines s → Whole (line ∷ lines) s
 header_said only a line lines s m place b (Header f) w sayable stands t k =
     let e : empty_session f ≡ b = ok_is (empty_session f) b t in
-    let r = behind only f m place Relations (empty_session f) lines s refl (omega arith) (omega arith) (subst (λ (x : SessionData). ReadsOn m place (at_line Relations x) lines s) (sym e) k) in
+    let r = after_header only f m place Relations (empty_session f) lines s refl (omega arith) (omega arith) (subst (λ (x : SessionData). ReadsOn m place (at_line Relations x) lines s) (sym e) k) in
     record { format = f; known = sayable; statements = r.statements; say = says w r.say; in_order = r.in_order; sayable = r.sayable; checked = r.checked }
 header_said only a line lines s m place b st w sayable stands t k = absurd stands
 

@@ -132,7 +132,7 @@ mapping_added_so s t since w good printed e =
       new = subst (λ (n : Name). is_one_of (mapping_names s.mappings) n ≡ false) (sym read.name) (unused_ok (mapping_names s.mappings) w.name a.0 a.1);
     }
 
--- the mappings, as they are behind so many updates
+-- the mappings, as they are after some of the updates
 pub record MappingsValid (s : SessionData) (ms : List SessionMapping) (pairs : List (ℕ × ℕ)) : Type 0 where
   pub names : AreNames (mapping_names ms)
   pub all : AllByRecursion (IsMapping s.relations) ms

@@ -97,8 +97,8 @@ spoken k (b ∷ rest) e = tt
 
 -- ---- texts in a line of text
 
-behind_quote : (bytes : List ℕ) (b : ℕ) (rest : List ℕ) → bytes ≡ b ∷ rest → b < 128 → IsUtf8 bytes → IsUtf8 rest
-behind_quote bytes b rest is low u =
+after_quote : (bytes : List ℕ) (b : ℕ) (rest : List ℕ) → bytes ≡ b ∷ rest → b < 128 → IsUtf8 bytes → IsUtf8 rest
+after_quote bytes b rest is low u =
     let v : IsUtf8 (b ∷ rest) = subst IsUtf8 is u in
     IsUtf8-drop (b ∷ rest) 1 v (IsCharBoundary-after_ascii (b ∷ rest) 0 v (omega arith) low)
 
@@ -113,7 +113,7 @@ text_heard (b ∷ rest) zero u e = let f : ⊥ = cc in absurd f
 text_heard (b ∷ rest) (suc n) u e =
     let quote : (b == 34) ≡ true = (and_parts (b == 34) (is_whole (length (take n rest)) (text_from 0 1 (take n rest))) e).0 in
     let r = text_read b (take n rest) e in
-    let v : IsUtf8 rest = behind_quote (b ∷ rest) b rest refl (grind (arith, nat_tests)) u in
+    let v : IsUtf8 rest = after_quote (b ∷ rest) b rest refl (grind (arith, nat_tests)) u in
     let all : text_from 0 1 rest ≡ Ok r.x = ap (text_from 0 1) (sym (take-append-drop n rest)) ∙ longer 0 1 (take n rest) (drop n rest) r.x r.is in
     let characters : text_from 0 1 (encode_utf8_all v.0) ≡ Ok r.x = ap (text_from 0 1) v.1.1 ∙ all in
     subst IsUtf8 (sym (said_is (take n rest) r)) (text_said v.0 0 1 r.x v.1.0 characters)
@@ -123,16 +123,16 @@ text_heard (b ∷ rest) (suc n) u e =
 abbrev Found : ℕ → List ℕ → Token → Type 0
 Found place bytes t = (place ≤ t.from) × (spells t.kind (spelling_at place bytes t) ≡ true)
 
--- what is found behind a byte is found with it
-behind_byte : (place b : ℕ) (rest : List ℕ) (t : Token) → Found (place + 1) rest t → Found place (b ∷ rest) t
-behind_byte place b rest t f =
+-- what is found after a byte is found with it
+after_byte : (place b : ℕ) (rest : List ℕ) (t : Token) → Found (place + 1) rest t → Found place (b ∷ rest) t
+after_byte place b rest t f =
     let low : place + 1 ≤ t.from = f.0 in
     let n : t.from - place ≡ suc (t.from - (place + 1)) = omega arith in
     (omega arith, ap (λ k. spells t.kind (take (t.to - t.from) (drop k (b ∷ rest)))) n ∙ f.1)
 
-all_behind : (place b : ℕ) (rest : List ℕ) (ts : List Token) → AllByRecursion (Found (place + 1) rest) ts → AllByRecursion (Found place (b ∷ rest)) ts
-all_behind place b rest [] all = tt
-all_behind place b rest (t ∷ ts) all = (behind_byte place b rest t all.0, all_behind place b rest ts all.1)
+all_after : (place b : ℕ) (rest : List ℕ) (ts : List Token) → AllByRecursion (Found (place + 1) rest) ts → AllByRecursion (Found place (b ∷ rest)) ts
+all_after place b rest [] all = tt
+all_after place b rest (t ∷ ts) all = (after_byte place b rest t all.0, all_after place b rest ts all.1)
 
 abbrev Tokens : Type 0
 Tokens = Result (List Token) LexRefusal
@@ -162,17 +162,17 @@ none_found place bytes (t ∷ ts) e = let f : ⊥ = cc in absurd f
 tokens_found : (place inside : ℕ) (bytes : List ℕ) → AllFound place inside bytes
 unfolding tokens_at
 tokens_found place inside [] ts e = none_found place [] ts e
-tokens_found place (suc inside) (b ∷ rest) ts e = all_behind place b rest ts (tokens_found (place + 1) inside rest ts e)
+tokens_found place (suc inside) (b ∷ rest) ts e = all_after place b rest ts (tokens_found (place + 1) inside rest ts e)
 tokens_found place zero (b ∷ rest) ts e = by (λ inside. tokens_found (place + 1) inside rest) (is_blank b) (b == 35) refl refl where
   on_token : (x : TokenKind × ℕ) → token_at place (b ∷ rest) ≡ Ok x → AllFound (place + 1) (x.1 - 1) rest
       → with_front (record { kind = x.0; from = place; to = place + x.1 } ∷ []) (tokens_at (place + 1) (x.1 - 1) rest) ≡ Ok ts → AllByRecursion (Found place (b ∷ rest)) ts
   on_token x found others f =
       let t : Token = record { kind = x.0; from = place; to = place + x.1 } in
       let g = front_ok t (tokens_at (place + 1) (x.1 - 1) rest) ts f in
-      subst (AllByRecursion (Found place (b ∷ rest))) g.2 (first_found place b rest x.0 x.1 found, all_behind place b rest g.0 (others g.0 g.1))
+      subst (AllByRecursion (Found place (b ∷ rest))) g.2 (first_found place b rest x.0 x.1 found, all_after place b rest g.0 (others g.0 g.1))
 
   by : ((inside : ℕ) → AllFound (place + 1) inside rest) → (blank comment : Bool) → is_blank b ≡ blank → (b == 35) ≡ comment → AllByRecursion (Found place (b ∷ rest)) ts
-  by others true comment f g = all_behind place b rest ts (others 0 ts (rw f at e))
+  by others true comment f g = all_after place b rest ts (others 0 ts (rw f at e))
   by others false true f g = none_found place (b ∷ rest) ts (rw (f, g) at e)
   by others false false f g =
       let x = bind_lexed (token_at place (b ∷ rest)) _ ts (rw (f, g) at e) in

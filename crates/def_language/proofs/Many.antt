@@ -8,19 +8,19 @@ use Rattle.def_language.specs.Reading.{◌>>=◌, with_front, many}
 use Rattle.def_language.specs.Grammar.{separated}
 
 -- what `one` reads of an item that stands before a comma, and of the last one
-pub record Reads {A : Type 0} (one : List Word → Result (A × Bool × List Word) Kind) (words : A → List Word) (Good : A → Type 0) (end behind : List Word) : Type 0 where
+pub record Reads {A : Type 0} (one : List Word → Result (A × Bool × List Word) Kind) (words : A → List Word) (Good : A → Type 0) (end left : List Word) : Type 0 where
   pub next : (x : A) (rest : List Word) → Good x → one (words x ++ comma ∷ rest) ≡ Ok (x, true, rest)
-  pub last : (x : A) → Good x → one (words x ++ end) ≡ Ok (x, false, behind)
+  pub last : (x : A) → Good x → one (words x ++ end) ≡ Ok (x, false, left)
 
-pub many_again : {A : Type 0} (one : List Word → Result (A × Bool × List Word) Kind) (words : A → List Word) (Good : A → Type 0) (end behind : List Word) → Reads one words Good end behind
-    → (n : ℕ) (x : A) (xs : List A) → length xs ≤ n → AllByRecursion Good (x ∷ xs) → many n one (separated words (x ∷ xs) ++ end) ≡ Ok (x ∷ xs, behind)
+pub many_again : {A : Type 0} (one : List Word → Result (A × Bool × List Word) Kind) (words : A → List Word) (Good : A → Type 0) (end left : List Word) → Reads one words Good end left
+    → (n : ℕ) (x : A) (xs : List A) → length xs ≤ n → AllByRecursion Good (x ∷ xs) → many n one (separated words (x ∷ xs) ++ end) ≡ Ok (x ∷ xs, left)
 unfolding many
-many_again one words Good end behind r zero x [] le all = rw (r.last x all.0) refl
-many_again one words Good end behind r (suc n) x [] le all = rw (r.last x all.0) refl
-many_again one words Good end behind r zero x (y ∷ xs) le all = absurd (omega arith)
-many_again one words Good end behind r (suc n) x (y ∷ xs) le all =
+many_again one words Good end left r zero x [] le all = rw (r.last x all.0) refl
+many_again one words Good end left r (suc n) x [] le all = rw (r.last x all.0) refl
+many_again one words Good end left r zero x (y ∷ xs) le all = absurd (omega arith)
+many_again one words Good end left r (suc n) x (y ∷ xs) le all =
     let e : (words x ++ comma ∷ separated words (y ∷ xs)) ++ end ≡ words x ++ comma ∷ (separated words (y ∷ xs) ++ end) = append_assoc (words x) (comma ∷ separated words (y ∷ xs)) end in
-    ap (many (suc n) one) e ∙ rw (r.next x (separated words (y ∷ xs) ++ end) all.0, many_again one words Good end behind r n y xs (omega arith) all.1) refl
+    ap (many (suc n) one) e ∙ rw (r.next x (separated words (y ∷ xs) ++ end) all.0, many_again one words Good end left r n y xs (omega arith) all.1) refl
 
 -- each item has a word, but the last may have none
 pub enough : {A : Type 0} (words : A → List Word) (x : A) (xs : List A) (end : List Word) → length xs ≤ length (separated words (x ∷ xs) ++ end)
@@ -30,10 +30,10 @@ enough words x (y ∷ xs) end =
     omega (arith, enough words y xs end, length-append (words x) (comma ∷ (separated words (y ∷ xs) ++ end)), ap length e)
 
 -- with as much fuel as there are words
-pub all_again : {A : Type 0} (one : List Word → Result (A × Bool × List Word) Kind) (words : A → List Word) (Good : A → Type 0) (end behind : List Word) → Reads one words Good end behind
-    → (xs : List A) → 1 ≤ length xs → AllByRecursion Good xs → many (length (separated words xs ++ end)) one (separated words xs ++ end) ≡ Ok (xs, behind)
-all_again one words Good end behind r [] some all = absurd (omega arith)
-all_again one words Good end behind r (x ∷ xs) some all = many_again one words Good end behind r (length (separated words (x ∷ xs) ++ end)) x xs (enough words x xs end) all
+pub all_again : {A : Type 0} (one : List Word → Result (A × Bool × List Word) Kind) (words : A → List Word) (Good : A → Type 0) (end left : List Word) → Reads one words Good end left
+    → (xs : List A) → 1 ≤ length xs → AllByRecursion Good xs → many (length (separated words xs ++ end)) one (separated words xs ++ end) ≡ Ok (xs, left)
+all_again one words Good end left r [] some all = absurd (omega arith)
+all_again one words Good end left r (x ∷ xs) some all = many_again one words Good end left r (length (separated words (x ∷ xs) ++ end)) x xs (enough words x xs end) all
 
 -- What `one` reads is an item, and then a comma or what ends the list.
 abbrev pub Only : {A : Type 0} → (List Word → Result (A × Bool × List Word) Kind) → (A → List Word) → (A → Type 0) → (List Word → List Word → Type 0) → Type 0

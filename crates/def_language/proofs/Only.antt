@@ -94,7 +94,7 @@ item_only {A} wanted item word Good one ws x rest = (λ e. next ws e, λ e. last
       absurd (let g : ⊥ = cc in g)
   last (w ∷ sign ∷ more) e = let b = bind_ok (item w) _ (x, false, rest) e in let f : ⊥ = cc in absurd f
 
--- the list in parentheses, with what stands behind it
+-- the list in parentheses, with what follows it
 pub items_only : {A : Type 0} (wanted : Wanted) (item : Word → Result A Kind) (word : A → Word) (Good : A → Type 0) → One item word Good → (ws : List Word) (xs : List A) (rest : List Word)
     → items_at wanted item ws ≡ Ok (xs, rest) → (1 ≤ length xs) × AllByRecursion Good xs × (ws ≡ (separated (one_word word) xs ++ closes ∷ []) ++ rest)
 unfolding items_at

@@ -138,8 +138,8 @@ digits_say (d ∷ ds) n all some value = rw (no_minus d (and_parts (is_digit d) 
 null_parts : (ds es : List ℕ) (u k : ℕ) → list_all is_digit ds ≡ true → value_after 0 ds ≡ u → value_after 0 es ≡ k → word kind.Null (63 ∷ (ds ++ 46 ∷ es)) ≡ null u k
 null_parts ds es u k all first second =
     let whole : run is_digit (ds ++ 46 ∷ es) ≡ length ds = run_whole is_digit ds (46 ∷ es) all refl in
-    let behind : drop (length ds + 1) (ds ++ 46 ∷ es) ≡ es = drop-append-add ds (46 ∷ es) 1 in
-    rw (whole, take-append_seam ds (46 ∷ es), behind, first, second) refl
+    let after : drop (length ds + 1) (ds ++ 46 ∷ es) ≡ es = drop-append-add ds (46 ∷ es) 1 in
+    rw (whole, take-append_seam ds (46 ∷ es), after, first, second) refl
 
 text_inside : (t : List ℕ) → word kind.Text (34 ∷ (flat_map written_byte t ++ 34 ∷ [])) ≡ text t
 text_inside t = ap (λ (read : Result (List ℕ × ℕ) LexRefusal). text (said read)) (bytes_again t 0 1 [])

@@ -18,12 +18,12 @@ IsIn names n = is_one_of names n ≡ true
 abbrev pub AreIn : List Name → List Name → Type 0
 AreIn names ns = AllByRecursion (IsIn names) ns
 
--- a new name behind others
-pub new_behind : (before names : List Name) (n : Name) → AreNew before names → IsName n → is_one_of (before ++ names) n ≡ false → AreNew before (names ++ n ∷ [])
-new_behind before [] n all good new = (good, subst (λ (ns : List Name). is_one_of ns n ≡ false) (append-nil before) new, tt)
-new_behind before (m ∷ names) n all good new =
+-- a new name after others
+pub new_after : (before names : List Name) (n : Name) → AreNew before names → IsName n → is_one_of (before ++ names) n ≡ false → AreNew before (names ++ n ∷ [])
+new_after before [] n all good new = (good, subst (λ (ns : List Name). is_one_of ns n ≡ false) (append-nil before) new, tt)
+new_after before (m ∷ names) n all good new =
     let e : before ++ m ∷ names ≡ (before ++ m ∷ []) ++ names = sym (append_assoc before (m ∷ []) names) in
-    (all.0, all.1, new_behind (before ++ m ∷ []) names n all.2 good (subst (λ (ns : List Name). is_one_of ns n ≡ false) e new))
+    (all.0, all.1, new_after (before ++ m ∷ []) names n all.2 good (subst (λ (ns : List Name). is_one_of ns n ≡ false) e new))
 
 either : (a b : Bool) → b ≡ true → (a || b) ≡ true
 either true b e = refl
@@ -51,7 +51,7 @@ grown : (seen : List Name) (n : Name) → Grown seen n (with_new same_name seen 
 grown seen n = by (is_one_of seen n) refl where
   by : (b : Bool) → is_one_of seen n ≡ b → Grown seen n (let ns : List Name = if b then seen else seen ++ n ∷ [] in ns)
   by true e = record { more = []; front = sym (append-nil seen); has = e; apart = λ all good. all }
-  by false e = record { more = n ∷ []; front = refl; has = in_right seen (n ∷ []) n (in_itself n []); apart = λ all good. new_behind [] seen n all good e }
+  by false e = record { more = n ∷ []; front = refl; has = in_right seen (n ∷ []) n (in_itself n []); apart = λ all good. new_after [] seen n all good e }
 
 pub record AllGrown (seen ns names : List Name) : Type 0 where
   pub more : List Name

@@ -61,7 +61,7 @@ updates_within s section (u ∷ us) w =
 end_fits : (f : ℕ) (section : Section) → Within section 4 → Fits section f End
 end_fits f section w =
     let high : rank section ≤ 4 = w.high in
-    record { behind = tt; begun = w.low; open_ = omega arith; in_order = omega arith; sayable = tt; words = ((refl, tt), tt); members = tt }
+    record { after_header = tt; begun = w.low; open_ = omega arith; in_order = omega arith; sayable = tt; words = ((refl, tt), tt); members = tt }
 
 each_directly : (sts : List Statement) → AllByRecursion HasMembers sts → flat_map line_text sts ≡ flat_map (λ st. statement_text st ++ 10 ∷ []) sts
 each_directly [] all = refl
@@ -76,8 +76,8 @@ module _ (s : SessionData) (valid : IsSession s) where
     flat_map (update_statements s) s.updates,
   )
 
-  abbrev behind : List Statement
-  behind = parts.0 ++ (parts.1 ++ (parts.2 ++ (parts.3 ++ End ∷ [])))
+  abbrev rest : List Statement
+  rest = parts.0 ++ (parts.1 ++ (parts.2 ++ (parts.3 ++ End ∷ [])))
 
   abbrev section_1 : Section
   section_1 = last_section Relations parts.0
@@ -135,7 +135,7 @@ module _ (s : SessionData) (valid : IsSession s) where
     two = two_or_none valid.format;
   }
 
-  runs : Runs Relations (empty_session s.format) behind s
+  runs : Runs Relations (empty_session s.format) rest s
   runs =
       let n : length s.mappings ≡ length (initial_mappings s.mappings) + length (added_mappings s.mappings) = ap length valid.added_last ∙ length-append (initial_mappings s.mappings) (added_mappings s.mappings) in
       let one = relations_run s.format [] s.relations valid.relation_names valid.relations (omega (arith, valid.relation_count)) in
@@ -152,13 +152,13 @@ module _ (s : SessionData) (valid : IsSession s) where
       (runs_on section_1 a b s parts.1 (parts.2 ++ (parts.3 ++ End ∷ [])) two
       (runs_on section_2 b c s parts.2 (parts.3 ++ End ∷ []) three (runs_on section_3 c s s parts.3 (End ∷ []) four five)))
 
-  ends : last_section Relations behind ≡ Ended
+  ends : last_section Relations rest ≡ Ended
   ends =
       last_joined Relations parts.0 (parts.1 ++ (parts.2 ++ (parts.3 ++ End ∷ []))) ∙ last_joined section_1 parts.1 (parts.2 ++ (parts.3 ++ End ∷ []))
       ∙ last_joined section_2 parts.2 (parts.3 ++ End ∷ []) ∙ last_joined section_3 parts.3 (End ∷ [])
 
   all_printed : AllByRecursion (λ st. ArePrinted (statement_words st)) (statements_of s)
-  all_printed = (header_words s.format valid.format, runs_printed Relations (empty_session s.format) s behind runs)
+  all_printed = (header_words s.format valid.format, runs_printed Relations (empty_session s.format) s rest runs)
 
   line_each : (sts : List Statement) → AllByRecursion (λ st. ArePrinted (statement_words st)) sts → AllByRecursion (λ st. IsLine (printed_line st)) sts
   line_each [] all = tt
@@ -175,10 +175,10 @@ module _ (s : SessionData) (valid : IsSession s) where
   session_again =
       text_read (printed s) printed_is_text
       ∙ ap (lines_from 0 0 begun) (split_lines printed_line (statements_of s) (line_each (statements_of s) all_printed))
-      ∙ whole_read s.format behind s valid.format runs ends
+      ∙ whole_read s.format rest s valid.format runs ends
 
   all_members : AllByRecursion HasMembers (statements_of s)
-  all_members = (tt, runs_members Relations (empty_session s.format) s behind runs)
+  all_members = (tt, runs_members Relations (empty_session s.format) s rest runs)
 
   -- the lines, written directly
   pub printed_directly : printed s ≡ flat_map (λ st. statement_text st ++ 10 ∷ []) (statements_of s)

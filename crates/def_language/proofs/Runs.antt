@@ -20,14 +20,14 @@ use Rattle.def_language.proofs.Spoken.{ArePrinted}
 abbrev pub printed_line : Statement → List ℕ
 printed_line st = laid_out (statement_words st)
 
--- behind the header
-abbrev pub IsBehind : Statement → Type 0
-IsBehind (Header f) = ⊥
-IsBehind _ = Unit {0}
+-- after the header
+abbrev pub IsAfterHeader : Statement → Type 0
+IsAfterHeader (Header f) = ⊥
+IsAfterHeader _ = Unit {0}
 
--- The statement may stand in the section, behind the header and before the end, and its words can be printed.
+-- The statement may stand in the section, after the header and before the end, and its words can be printed.
 pub record Fits (section : Section) (format : ℕ) (st : Statement) : Type 0 where
-  pub behind : IsBehind st
+  pub after_header : IsAfterHeader st
   pub begun : 1 ≤ rank section
   pub open_ : rank section < 5
   pub in_order : rank section ≤ rank (section_of st)
@@ -35,10 +35,10 @@ pub record Fits (section : Section) (format : ℕ) (st : Statement) : Type 0 whe
   pub words : ArePrinted (statement_words st)
   pub members : HasMembers st
 
-may_stand : (section : Section) (st : Statement) → IsBehind st → 1 ≤ rank section → rank section ≤ rank (section_of st) → MayStand section st
-may_stand section (Header f) behind low le = absurd behind
-may_stand Beginning st behind low le = absurd (omega arith)
-may_stand section st behind low le = le
+may_stand : (section : Section) (st : Statement) → IsAfterHeader st → 1 ≤ rank section → rank section ≤ rank (section_of st) → MayStand section st
+may_stand section (Header f) after_header low le = absurd after_header
+may_stand Beginning st after_header low le = absurd (omega arith)
+may_stand section st after_header low le = le
 
 pub spoken_words : (ws : List Word) → ArePrinted ws → AllByRecursion IsSpoken ws
 spoken_words [] all = tt
@@ -95,12 +95,12 @@ runs_read n start section a b [] rest e =
     record { place = start; same = ap (λ (x : SessionData). lines_from n start (record { section = section; session = x }) rest) e ∙ ap (λ k. lines_from k start (record { section = section; session = b }) rest) m }
 runs_read n start section a b (st ∷ sts) rest run =
     let f = run.0 in
-    let first = line_read n start section a run.1.0 st (map printed_line sts ++ rest) (may_stand section st f.behind f.begun f.in_order) f.open_ f.sayable f.words run.1.1 in
+    let first = line_read n start section a run.1.0 st (map printed_line sts ++ rest) (may_stand section st f.after_header f.begun f.in_order) f.open_ f.sayable f.words run.1.1 in
     let others = runs_read (n + 1) (start + length (printed_line st) + 1) (section_of st) run.1.0 b sts rest run.1.2 in
     let m : n + 1 + length sts ≡ n + suc (length sts) = omega arith in
     record { place = others.place; same = first ∙ others.same ∙ ap (λ k. lines_from k others.place (record { section = last_section (section_of st) sts; session = b }) rest) m }
 
--- behind `end` and the last line feed
+-- after `end` and the last line feed
 ended : (n start : ℕ) (b : SessionData) → lines_from n start (record { section = Ended; session = b }) ([] ∷ []) ≡ Ok b
 unfolding lines_from line_with tokens_at
 ended n start b = refl
@@ -113,7 +113,7 @@ pub last_joined : (section : Section) (xs ys : List Statement) → last_section 
 last_joined section [] ys = refl
 last_joined section (x ∷ xs) ys = last_joined (section_of x) xs ys
 
--- A whole session: the header, and the statements behind it up to the end.
+-- A whole session: the header, and the statements after it up to the end.
 pub whole_read : (f : ℕ) (sts : List Statement) (b : SessionData) → (f ≡ 1) ⊎ (f ≡ 2) → Runs Relations (empty_session f) sts b → last_section Relations sts ≡ Ended
     → lines_from 0 0 begun (map printed_line (Header f ∷ sts) ++ [] ∷ []) ≡ Ok b
 whole_read f sts b format run last =

@@ -49,14 +49,14 @@ atom_only ws atom rest e =
     let words : ws ≡ atom_words got ++ c.0.1 = name_only ws a.0.0 a.0.1 a.1 ∙ ap (λ (vs : List Word). name a.0.0 ∷ vs) (open_only a.0.1 b.0 b.1) ∙ ap (λ (vs : List Word). name a.0.0 ∷ opens ∷ vs) l.2 in
     subst (λ (x : WrittenAtom × List Word). AtomRead ws x.0 x.1) p ((l.0, l.1), words)
 
--- ---- what stands behind an item
+-- ---- what stands after an item
 
 -- the sign is a comma, or what ends the list
 abbrev Signed : {A : Type 0} → (List Word → List Word → Type 0) → A → List Word → Triple A → Type 0
-Signed {A} Ends x behind t = ((t.1 ≡ true) × (t.0 ≡ x) × (behind ≡ comma ∷ t.2)) ⊎ ((t.1 ≡ false) × (t.0 ≡ x) × Ends behind t.2)
+Signed {A} Ends x after t = ((t.1 ≡ true) × (t.0 ≡ x) × (after ≡ comma ∷ t.2)) ⊎ ((t.1 ≡ false) × (t.0 ≡ x) × Ends after t.2)
 
-signed_so : {A : Type 0} (Ends : List Word → List Word → Type 0) (x : A) (behind : List Word) (got t : Triple A) → Signed Ends x behind got → SameOk got t → Signed Ends x behind t
-signed_so {A} Ends x behind got t s e = subst (λ (u : Triple A). Signed Ends x behind u) (triple got t e) s
+signed_so : {A : Type 0} (Ends : List Word → List Word → Type 0) (x : A) (after : List Word) (got t : Triple A) → Signed Ends x after got → SameOk got t → Signed Ends x after t
+signed_so {A} Ends x after got t s e = subst (λ (u : Triple A). Signed Ends x after u) (triple got t e) s
 
 abbrev EndsLeft : List Word → List Word → Type 0
 EndsLeft tail rest = tail ≡ arrow ∷ rest
@@ -64,33 +64,33 @@ EndsLeft tail rest = tail ≡ arrow ∷ rest
 abbrev EndsLine : List Word → List Word → Type 0
 EndsLine tail rest = (tail ≡ []) × (rest ≡ [])
 
-left_signed : (a : WrittenAtom) (behind : List Word) (t : Triple WrittenAtom) → left_sign a behind ≡ Ok t → Signed EndsLeft a behind t
+left_signed : (a : WrittenAtom) (after : List Word) (t : Triple WrittenAtom) → left_sign a after ≡ Ok t → Signed EndsLeft a after t
 left_signed a (comma ∷ rest) t e = signed_so EndsLeft a (comma ∷ rest) (a, true, rest) t (inl (refl, refl, refl)) e
 left_signed a (arrow ∷ rest) t e = signed_so EndsLeft a (arrow ∷ rest) (a, false, rest) t (inr (refl, refl, refl)) e
-left_signed a behind t e = let f : ⊥ = cc in absurd f
+left_signed a after t e = let f : ⊥ = cc in absurd f
 
-last_signed : {A : Type 0} (x : A) (behind : List Word) (t : Triple A) → last_sign x behind ≡ Ok t → Signed EndsLine x behind t
+last_signed : {A : Type 0} (x : A) (after : List Word) (t : Triple A) → last_sign x after ≡ Ok t → Signed EndsLine x after t
 last_signed x [] t e = signed_so EndsLine x [] (x, false, []) t (inr (refl, refl, (refl, refl))) e
 last_signed x (comma ∷ rest) t e = signed_so EndsLine x (comma ∷ rest) (x, true, rest) t (inl (refl, refl, refl)) e
-last_signed x behind t e = let f : ⊥ = cc in absurd f
+last_signed x after t e = let f : ⊥ = cc in absurd f
 
 -- an item and its sign, from what is known of each
 item_and_sign : {A : Type 0} (read : List Word → Result (A × List Word) Kind) (sign : A → List Word → Result (Triple A) Kind) (words : A → List Word) (Good : A → Type 0) (Ends : List Word → List Word → Type 0)
-    → ((ws : List Word) (x : A) (rest : List Word) → read ws ≡ Ok (x, rest) → Good x × (ws ≡ words x ++ rest)) → ((x : A) (behind : List Word) (t : Triple A) → sign x behind ≡ Ok t → Signed Ends x behind t)
+    → ((ws : List Word) (x : A) (rest : List Word) → read ws ≡ Ok (x, rest) → Good x × (ws ≡ words x ++ rest)) → ((x : A) (after : List Word) (t : Triple A) → sign x after ≡ Ok t → Signed Ends x after t)
     → Only (λ ws. read ws >>= (λ x. sign x.0 x.1)) words Good Ends
 item_and_sign {A} read sign words Good Ends item signed ws x rest = (λ e. next e, λ e. last e) where
-  found : (m : Bool) → (read ws >>= (λ x. sign x.0 x.1)) ≡ Ok (x, m, rest) → (y : A) × (behind : List Word) × (Good y × (ws ≡ words y ++ behind)) × Signed Ends y behind (x, m, rest)
+  found : (m : Bool) → (read ws >>= (λ x. sign x.0 x.1)) ≡ Ok (x, m, rest) → (y : A) × (after : List Word) × (Good y × (ws ≡ words y ++ after)) × Signed Ends y after (x, m, rest)
   found m e =
       let b = bind_ok (read ws) _ (x, m, rest) e in
       (b.0.0, b.0.1, item ws b.0.0 b.0.1 b.1, signed b.0.0 b.0.1 (x, m, rest) b.2)
 
-  next_so : (y : A) (behind : List Word) → Good y × (ws ≡ words y ++ behind) → Signed Ends y behind (x, true, rest) → Good x × (ws ≡ words x ++ comma ∷ rest)
-  next_so y behind good (inl s) = (subst Good (sym s.1) good.0, good.1 ∙ ap (λ (z : A). words z ++ behind) (sym s.1) ∙ ap (λ (vs : List Word). words x ++ vs) s.2)
-  next_so y behind good (inr s) = let f : ⊥ = let g : true ≡ false = s.0 in cc in absurd f
+  next_so : (y : A) (after : List Word) → Good y × (ws ≡ words y ++ after) → Signed Ends y after (x, true, rest) → Good x × (ws ≡ words x ++ comma ∷ rest)
+  next_so y after good (inl s) = (subst Good (sym s.1) good.0, good.1 ∙ ap (λ (z : A). words z ++ after) (sym s.1) ∙ ap (λ (vs : List Word). words x ++ vs) s.2)
+  next_so y after good (inr s) = let f : ⊥ = let g : true ≡ false = s.0 in cc in absurd f
 
-  last_so : (y : A) (behind : List Word) → Good y × (ws ≡ words y ++ behind) → Signed Ends y behind (x, false, rest) → Good x × ((tail : List Word) × (ws ≡ words x ++ tail) × Ends tail rest)
-  last_so y behind good (inl s) = let f : ⊥ = let g : false ≡ true = s.0 in cc in absurd f
-  last_so y behind good (inr s) = (subst Good (sym s.1) good.0, (behind, good.1 ∙ ap (λ (z : A). words z ++ behind) (sym s.1), s.2))
+  last_so : (y : A) (after : List Word) → Good y × (ws ≡ words y ++ after) → Signed Ends y after (x, false, rest) → Good x × ((tail : List Word) × (ws ≡ words x ++ tail) × Ends tail rest)
+  last_so y after good (inl s) = let f : ⊥ = let g : false ≡ true = s.0 in cc in absurd f
+  last_so y after good (inr s) = (subst Good (sym s.1) good.0, (after, good.1 ∙ ap (λ (z : A). words z ++ after) (sym s.1), s.2))
 
   next : (read ws >>= (λ x. sign x.0 x.1)) ≡ Ok (x, true, rest) → Good x × (ws ≡ words x ++ comma ∷ rest)
   next e = let f = found true e in next_so f.0 f.1 f.2 f.3

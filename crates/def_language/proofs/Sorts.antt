@@ -1,4 +1,4 @@
--- The kinds of tokens that say words, and what may stand behind them.
+-- The kinds of tokens that say words, and what may follow them.
 use Rattle.std.proofs.Common.{◌≡◌, ℕ, Bool, false, List, [], ◌∷◌}
 use Rattle.def_language.specs.declared.tokens.TokenKind.{TokenKind}
 use Rattle.def_language.specs.declared.tokens.TokenKind.TheVariants as kind
@@ -20,7 +20,7 @@ abbrev pub starts : (ℕ → Bool) → List ℕ → Bool
 starts p [] = false
 starts p (b ∷ rest) = p b
 
--- nothing behind the word goes on with it
+-- nothing after the word goes on with it
 abbrev pub Stops : Word → List ℕ → Type 0
 Stops (name n) rest = starts continues_name rest ≡ false
 Stops (number z) rest = starts is_digit rest ≡ false

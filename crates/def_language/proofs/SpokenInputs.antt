@@ -21,7 +21,7 @@ use Rattle.def_language.proofs.HeardInputs.{Whole, whole}
 abbrev ReadsOn : ℕ → ℕ → State → List (List ℕ) → SessionData → Type 0
 ReadsOn n start state lines s = lines_from n start state lines ≡ Ok s
 
--- behind the end
+-- after the end
 ended_said : (n start : ℕ) (a : SessionData) (lines : List (List ℕ)) (sts : List Statement) → Say lines sts → sts ≡ [] → ReadsOn n start (at_line Ended a) lines a
 unfolding lines_from
 ended_said n start a [] sts nothing e = refl
@@ -47,28 +47,28 @@ inner_low (Update label curator operation) inner = (omega arith, omega arith)
 inner_low (Answer label choice) inner = (omega arith, omega arith)
 inner_low End inner = absurd inner
 
--- behind the header
-behind_said : Again → (f n start : ℕ) (section : Section) (a : SessionData) (lines : List (List ℕ)) (s : SessionData) (all : List Statement) → Say lines all → (sts : List Statement) → all ≡ sts ++ End ∷ []
+-- after the header
+after_header_said : Again → (f n start : ℕ) (section : Section) (a : SessionData) (lines : List (List ℕ)) (s : SessionData) (all : List Statement) → Say lines all → (sts : List Statement) → all ≡ sts ++ End ∷ []
     → a.format ≡ f → 1 ≤ rank section → rank section < 5 → AreInOrder section sts → AllByRecursion (IsSayable f) sts → taken_all a sts ≡ Ok s → ReadsOn n start (at_line section a) lines s
-behind_said again f n start section a [] s all nothing [] e format lo hi order sayable checked = let g : ⊥ = cc in absurd g
-behind_said again f n start section a [] s all nothing (x ∷ xs) e format lo hi order sayable checked = let g : ⊥ = cc in absurd g
-behind_said again f n start section a (line ∷ lines) s all (blank w rest) sts e format lo hi order sayable checked =
-    blank_passed n start section a line lines w ∙ behind_said again f (n + 1) (start + length line + 1) section a lines s all rest sts e format lo hi order sayable checked
-behind_said again f n start section a (line ∷ lines) s (st ∷ all) (says w rest) [] e format lo hi order sayable checked =
+after_header_said again f n start section a [] s all nothing [] e format lo hi order sayable checked = let g : ⊥ = cc in absurd g
+after_header_said again f n start section a [] s all nothing (x ∷ xs) e format lo hi order sayable checked = let g : ⊥ = cc in absurd g
+after_header_said again f n start section a (line ∷ lines) s all (blank w rest) sts e format lo hi order sayable checked =
+    blank_passed n start section a line lines w ∙ after_header_said again f (n + 1) (start + length line + 1) section a lines s all rest sts e format lo hi order sayable checked
+after_header_said again f n start section a (line ∷ lines) s (st ∷ all) (says w rest) [] e format lo hi order sayable checked =
     let is : st ≡ End = cc in
     let none : all ≡ [] = cc in
     let there : words_at line ≡ Ok (statement_words End) = w ∙ ap (λ (x : Statement). Ok (statement_words x)) is in
     let same : a ≡ s = ok_is a s checked in
     line_passed again n start section a a line lines End there (end_stands section lo hi) hi tt refl
     ∙ subst (λ (x : SessionData). ReadsOn (n + 1) (start + length line + 1) (at_line Ended a) lines x) same (ended_said (n + 1) (start + length line + 1) a lines all rest none)
-behind_said again f n start section a (line ∷ lines) s (st ∷ all) (says w rest) (x ∷ xs) e format lo hi order sayable checked =
+after_header_said again f n start section a (line ∷ lines) s (st ∷ all) (says w rest) (x ∷ xs) e format lo hi order sayable checked =
     let is : st ≡ x = cc in
     let more : all ≡ xs ++ End ∷ [] = cc in
     let there : words_at line ≡ Ok (statement_words x) = w ∙ ap (λ (y : Statement). Ok (statement_words y)) is in
     let b = bind_ok (taken a x) (λ t. taken_all t xs) s checked in
     let low = inner_low x order.0 in
     line_passed again n start section a b.0 line lines x there (may_stand section x order.0 lo order.1) hi (subst (λ (g : ℕ). IsSayable g x) (sym format) sayable.0) b.1
-    ∙ behind_said again f (n + 1) (start + length line + 1) (section_of x) b.0 lines s all rest xs more (format_kept a b.0 x order.0 b.1 ∙ format) low.0 low.1 order.2 sayable.1 b.2
+    ∙ after_header_said again f (n + 1) (start + length line + 1) (section_of x) b.0 lines s all rest xs more (format_kept a b.0 x order.0 b.1 ∙ format) low.0 low.1 order.2 sayable.1 b.2
 
 -- from the beginning
 whole_said : Again → (n start f : ℕ) (a : SessionData) (lines : List (List ℕ)) (s : SessionData) (all : List Statement) → Say lines all → (sts : List Statement) → all ≡ Header f ∷ sts ++ End ∷ []
@@ -81,7 +81,7 @@ whole_said again n start f a (line ∷ lines) s (st ∷ all) (says w rest) sts e
     let more : all ≡ sts ++ End ∷ [] = cc in
     let there : words_at line ≡ Ok (statement_words (Header f)) = w ∙ ap (λ (y : Statement). Ok (statement_words y)) is in
     line_passed again n start Beginning a (empty_session f) line lines (Header f) there tt (omega arith) known refl
-    ∙ behind_said again f (n + 1) (start + length line + 1) Relations (empty_session f) lines s all rest sts more refl (omega arith) (omega arith) order sayable checked
+    ∙ after_header_said again f (n + 1) (start + length line + 1) Relations (empty_session f) lines s all rest sts more refl (omega arith) (omega arith) order sayable checked
 
 -- ---- bytes
 

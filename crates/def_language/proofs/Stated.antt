@@ -19,7 +19,7 @@ use Rattle.def_language.proofs.Many.{bind_ok, SameOk, ok_is}
 use Rattle.def_language.proofs.Only.{choose, value_only, name_only, end_only}
 use Rattle.def_language.proofs.Sole.{mapping_only, facts_only, whole_fact_only}
 
--- the line behind a first word
+-- the line after a first word
 worded : (n : Name) (rest : List Word) (keyword : Name) (words : List Word) → same_name n keyword ≡ true → rest ≡ words → name n ∷ rest ≡ name keyword ∷ words
 worded n rest keyword words same is = ap (λ (m : Name). name m ∷ rest) (same_is n keyword same) ∙ ap (λ (vs : List Word). name keyword ∷ vs) is
 
@@ -132,7 +132,7 @@ choice_only ws choice e = let f : ⊥ = cc in absurd f
 abbrev StatementRead : Section → ℕ → List Word → Statement → Type 0
 StatementRead section format ws st = (ws ≡ statement_words st) × IsSayable format st × MayStand section st
 
--- behind the header, where the statement's section is not over
+-- after the header, where the statement's section is not over
 stands : (section : Section) (st : Statement) → 1 ≤ rank section → 1 ≤ rank (section_of st) → rank section ≤ rank (section_of st) → ((f : ℕ) → st ≡ Header f → ⊥) → MayStand section st
 stands section (Header f) low low' le none = absurd (none f refl)
 stands Beginning st low low' le none = absurd (omega arith)

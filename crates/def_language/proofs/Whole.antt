@@ -167,7 +167,7 @@ module _ (s : SessionData) (valid : IsSession s) where
       let n : length before + 1 ≡ length (before ++ u ∷ []) = omega (arith, length-append before (u ∷ [])) in
       let others = updates_run Updates a.after a.left (before ++ u ∷ []) us (record { low = omega arith; high = omega arith }) (whole ∙ sym (append_assoc before (u ∷ []) us))
       (subst (λ k. Coming a.after a.left (enactments (k + 1) us)) n a.coming) (next_names (λ (x : SessionUpdate). x.label) before u (labels us) new.2) (subst (λ k. AreUpdates s.relations k us) n all.1) in (
-        record { behind = tt; begun = w.low; open_ = omega arith; in_order = high; sayable = a.sayable; words = ((refl, tt), ((new.0, tt), ((all.0.0, tt), a.printed))); members = a.members },
+        record { after_header = tt; begun = w.low; open_ = omega arith; in_order = high; sayable = a.sayable; words = ((refl, tt), ((new.0, tt), ((all.0.0, tt), a.printed))); members = a.members },
         (
           so_far s.format s.relations a.after s.base (before ++ answered_so u [] ∷ []),
           update_added done a.after before u us new.1 lt few a.performed,

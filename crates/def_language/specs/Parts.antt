@@ -121,8 +121,8 @@ right_at _ = wants missing.NameOrEnd
 unfoldable pub mapping_at : List Word → Result WrittenMapping Kind
 mapping_at words = do
   called ← name_at words
-  behind ← colon_at called.1
-  left ← left_at behind
+  rest ← colon_at called.1
+  left ← left_at rest
   right ← right_at left.1
   Ok (record { name = called.0; left = left.0; right = right })
 

@@ -114,7 +114,7 @@ pub fn printed_sessions()
         codes "end")) ≡
         codes "youtopia 1\nrelation A 1\nrelation B 2\n" ++
         codes "mapping m: A(x) -> B(x, \"\\\"\\\\\\n\")\nbase A(0)\nbase A(?0.1)\nend\n" }
-    ensures answers_stand_behind_updates { printed_text
+    ensures answers_follow_updates { printed_text
         (read (codes "youtopia 1\nrelation A 1\nupdate a ann insert A(1)\n" ++
         codes "update b bob delete A(1)\nanswer b delete A(1),A(2)\n" ++
         codes "answer a unify A(?1.1)\nanswer a expand\nend\n")) ≡
@@ -134,10 +134,16 @@ pub fn printed_sessions()
 pub fn printed_tuples()
     ensures forced { tuple_text [] true (force 12) ≡ codes "*12" }
     ensures inner { tuple_text (record { name = codes "A"; arity = 1 } ∷ []) true
-        (record { relation = 0; values = Unknown (record { update = 3; attempt = 1; place = 2 }) ∷ [] }) ≡
+        (record {
+          relation = 0;
+          values = Unknown (record { update = 3; attempt = 1; place = 2 }) ∷ [];
+        }) ≡
         codes "A(?3.2@1)" }
     ensures outer { tuple_text (record { name = codes "A"; arity = 1 } ∷ []) false
-        (record { relation = 0; values = Unknown (record { update = 3; attempt = 1; place = 2 }) ∷ [] }) ≡
+        (record {
+          relation = 0;
+          values = Unknown (record { update = 3; attempt = 1; place = 2 }) ∷ [];
+        }) ≡
         codes "A(?3.2)" }
 {}
 

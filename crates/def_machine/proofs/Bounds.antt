@@ -36,8 +36,8 @@ weakened M K c d n [] l t = tt
 weakened M K c d n (u ∷ us) l t = (t.0, λ e h. t.1 e (omega arith), weakened M K c d (suc n) us l t.2)
 
 -- the attempt's cost falls with a restart
-anew_cost : (K a B c z : ℕ) → a ≤ K → z ≡ 0 → (suc K - suc a) * B + (B - z) ≤ (suc K - a) * B + (B - c)
-anew_cost K a B c z h e =
+restart_cost : (K a B c z : ℕ) → a ≤ K → z ≡ 0 → (suc K - suc a) * B + (B - z) ≤ (suc K - a) * B + (B - c)
+restart_cost K a B c z h e =
     let f : suc K - a ≡ suc (suc K - suc a) = omega arith in
     omega (arith, ap (λ x. x * B) f)
 
@@ -83,7 +83,7 @@ module _ (M : Machine) (L : Laws M) (s : Settings) where
       (λ m. let low : u.attempt ≤ s.retries = few conflicting c j E N ms n u l t.0 t.1 m in
       let rest = settled_tried conflicting c j (M.apply E (trail M u)) N (ms ++ record { number = n; trail = trail M u } ∷ []) (suc n) us (omega arith) t.2 in (
         (suc-le-suc low, λ e f. refl, rest.0),
-        omega (arith, anew_cost s.retries u.attempt M.budget (M.count u.state) (M.count (M.begin n (suc u.attempt) u.operation)) low (L.begin_count n (suc u.attempt) u.operation), rest.1),
+        omega (arith, restart_cost s.retries u.attempt M.budget (M.count u.state) (M.count (M.begin n (suc u.attempt) u.operation)) low (L.begin_count n (suc u.attempt) u.operation), rest.1),
       ))
       (λ m. let rest = settled_tried conflicting c j (M.apply E (trail M u)) (M.apply N (trail M u)) ms (suc n) us (omega arith) t.2 in
       ((t.0, t.1, rest.0), omega (arith, rest.1)))

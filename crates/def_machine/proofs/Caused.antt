@@ -7,7 +7,7 @@ use Rattle.std.proofs.lemmas.Option.{same_Some, none-some, slice_get_within}
 use Rattle.def_machine.specs.Machine.{Machine, Laws}
 use Rattle.def_machine.specs.Updates.{Update, Session, Settings, trail, below, committed}
 use Rattle.def_machine.specs.Reads.{is_valid}
-use Rattle.def_machine.specs.Cascade.{Cause, Member, readers, conflicts, cascade, has_number, anew, restarted}
+use Rattle.def_machine.specs.Cascade.{Cause, Member, readers, conflicts, cascade, has_number, begun_again, restarted}
 use Rattle.def_machine.specs.Steps.{stepped}
 use Rattle.def_machine.specs.Effects.{Event, Admits, Steps, Delivers, Answers, Withdraws, Effect, is_spent, causes_of_loss, causes_of_writes, causes_of_step, put, withdrawn_now, delivered, answered, step_effect, withdraw_effect, deliver_effect, answer_effect, admitted, admit_effect, may_step, may_deliver, may_answer, may_withdraw, effect}
 use Rattle.def_machine.specs.Histories.{empty_log}
@@ -31,9 +31,9 @@ drop_put us v vs zero l = refl
 drop_put [] v vs (suc k) l = absurd (omega arith)
 drop_put (u ∷ us) v vs (suc k) l = drop_put us v vs k (omega arith)
 
-restarted_at : (M : Machine) (ns : List ℕ) (n i m : ℕ) (us : List (Update M)) (u : Update M) → m ≡ n + i → slice_get us i ≡ Some u → slice_get (restarted M ns n us) i ≡ Some (if has_number ns m then anew M m u else u)
+restarted_at : (M : Machine) (ns : List ℕ) (n i m : ℕ) (us : List (Update M)) (u : Update M) → m ≡ n + i → slice_get us i ≡ Some u → slice_get (restarted M ns n us) i ≡ Some (if has_number ns m then begun_again M m u else u)
 restarted_at M ns n i m [] u e h = absurd (none-some u h)
-restarted_at M ns n zero m (v ∷ us) u e h = let f : n ≡ m = omega arith in λ i. Some (if has_number ns (f i) then anew M (f i) (same_Some v u h i) else same_Some v u h i)
+restarted_at M ns n zero m (v ∷ us) u e h = let f : n ≡ m = omega arith in λ i. Some (if has_number ns (f i) then begun_again M (f i) (same_Some v u h i) else same_Some v u h i)
 restarted_at M ns n (suc i) m (v ∷ us) u e h = restarted_at M ns (suc n) i m us u (omega (arith, e)) h
 
 module _ (M : Machine) (L : Laws M) (s : Settings) (S : Session M) (us : List (Update M)) (z : M.Sound S.base) (r : AreRuns M S.base 1 us) where
@@ -105,7 +105,7 @@ module _ (M : Machine) (L : Laws M) (s : Settings) (S : Session M) (us : List (U
 
   abbrev IsPut : ℕ → Update M → Update M → List (Cause M) → Type 0
   IsPut k u v causes =
-      ((i : ℕ) (w : Update M) → slice_get us i ≡ Some w → has_number (readers causes) (suc i) ≡ true → slice_get (put M us k v causes) i ≡ Some (anew M (suc i) w))
+      ((i : ℕ) (w : Update M) → slice_get us i ≡ Some w → has_number (readers causes) (suc i) ≡ true → slice_get (put M us k v causes) i ≡ Some (begun_again M (suc i) w))
       × ((i : ℕ) (w : Update M) → slice_get us i ≡ Some w → has_number (readers causes) (suc i) ≡ false → (suc i ≡ suc k → ⊥) → slice_get (put M us k v causes) i ≡ Some w)
       × ((i : ℕ) (w : Update M) → slice_get us i ≡ Some w → suc i ≡ suc k → (x : Update M) × (slice_get (put M us k v causes) i ≡ Some x) × (x.attempt ≡ w.attempt))
 
@@ -121,17 +121,17 @@ module _ (M : Machine) (L : Laws M) (s : Settings) (S : Session M) (us : List (U
       long : k ≤ length us
       long = length_from us k u h
 
-      upper : (i : ℕ) (w : Update M) → k < i → slice_get us i ≡ Some w → slice_get (put M us k v causes) i ≡ Some (if has_number (readers causes) (suc i) then anew M (suc i) w else w)
+      upper : (i : ℕ) (w : Update M) → k < i → slice_get us i ≡ Some w → slice_get (put M us k v causes) i ≡ Some (if has_number (readers causes) (suc i) then begun_again M (suc i) w else w)
       upper i w l f =
           put_above us v (restarted M (readers causes) (suc (suc k)) (drop (suc k) us)) k (i - suc k) i (omega (arith, l)) long
           ∙ restarted_at M (readers causes) (suc (suc k)) (i - suc k) (suc i) (drop (suc k) us) w (omega (arith, l)) (dropped_same us (suc k) (i - suc k) i (omega (arith, l)) ∙ f)
 
-      named : {i : ℕ} (b : Bool) → nat_lt k i ≡ b → (m : ℕ) (w : Update M) → i ≡ m → slice_get us m ≡ Some w → has_number (readers causes) (suc m) ≡ true → slice_get (put M us k v causes) m ≡ Some (anew M (suc m) w)
-      named true q m w e f g = upper m w (subst (λ x. k < x) e (ltb-true _ _ q)) f ∙ (λ t. Some (if g t then anew M (suc m) w else w))
+      named : {i : ℕ} (b : Bool) → nat_lt k i ≡ b → (m : ℕ) (w : Update M) → i ≡ m → slice_get us m ≡ Some w → has_number (readers causes) (suc m) ≡ true → slice_get (put M us k v causes) m ≡ Some (begun_again M (suc m) w)
+      named true q m w e f g = upper m w (subst (λ x. k < x) e (ltb-true _ _ q)) f ∙ (λ t. Some (if g t then begun_again M (suc m) w else w))
       named {i} false q m w e f g = let low : i ≤ k = ltb-false _ _ q in absurd (both_ways _ (a (suc m) (omega (arith, low, e))) g)
 
       other : {i : ℕ} (b : Bool) → nat_lt k i ≡ b → (m : ℕ) (w : Update M) → i ≡ m → slice_get us m ≡ Some w → has_number (readers causes) (suc m) ≡ false → (suc m ≡ suc k → ⊥) → slice_get (put M us k v causes) m ≡ Some w
-      other true q m w e f g n = upper m w (subst (λ x. k < x) e (ltb-true _ _ q)) f ∙ (λ t. Some (if g t then anew M (suc m) w else w))
+      other true q m w e f g n = upper m w (subst (λ x. k < x) e (ltb-true _ _ q)) f ∙ (λ t. Some (if g t then begun_again M (suc m) w else w))
       other {i} false q m w e f g n =
           let low : i ≤ k = ltb-false _ _ q in
           let not_k : m ≡ k → ⊥ = λ x. n (ap suc x) in

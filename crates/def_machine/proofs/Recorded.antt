@@ -7,7 +7,7 @@ use Rattle.std.proofs.lemmas.List.{take-append-drop}
 use Rattle.std.proofs.lemmas.Option.{same_Some, none-some, option_and_then_some}
 use Rattle.def_machine.specs.Machine.{Machine}
 use Rattle.def_machine.specs.Updates.{Update, Submission, Session, Settings, below, committed}
-use Rattle.def_machine.specs.Cascade.{readers, has_number, restarted, anew}
+use Rattle.def_machine.specs.Cascade.{readers, has_number, restarted, begun_again}
 use Rattle.def_machine.specs.Steps.{stepped}
 use Rattle.def_machine.specs.Effects.{Event, Admits, Steps, Delivers, Answers, Withdraws, Effect, causes_of_loss, causes_of_step, withdrawn_now, delivered, answered, step_effect, withdraw_effect, deliver_effect, answer_effect, admitted, admit_effect, may_step, may_deliver, may_answer, may_withdraw, effect}
 use Rattle.def_machine.specs.Histories.{Log, empty_log, with_entry, after}
@@ -42,15 +42,15 @@ module _ (M : Machine) (Q : Update M → Submission M → Type 0) where
   along_more (u ∷ us) [] v y a h q = absurd a
   along_more (u ∷ us) (x ∷ xs) v y a h q = (a.0, along_more us xs v y a.1 h q)
 
-  along_restarted : ((n : ℕ) (u : Update M) (x : Submission M) → Q u x → Q (anew M n u) x) → (ns : List ℕ) (n : ℕ) (us : List (Update M)) (xs : List (Submission M)) → Along us xs → Along (restarted M ns n us) xs
+  along_restarted : ((n : ℕ) (u : Update M) (x : Submission M) → Q u x → Q (begun_again M n u) x) → (ns : List ℕ) (n : ℕ) (us : List (Update M)) (xs : List (Submission M)) → Along us xs → Along (restarted M ns n us) xs
   along_restarted f ns n [] xs a = tt
   along_restarted f ns n (u ∷ us) [] a = absurd a
   along_restarted f ns n (u ∷ us) (x ∷ xs) a =
-      (if_both (λ w. Q w x) (has_number ns n) (anew M n u) u (λ e. f n u x a.0) (λ e. a.0), along_restarted f ns (suc n) us xs a.1)
+      (if_both (λ w. Q w x) (has_number ns n) (begun_again M n u) u (λ e. f n u x a.0) (λ e. a.0), along_restarted f ns (suc n) us xs a.1)
 
   record IsKept (plain : Bool) : Type 0 where
     pub step : (D : M.Repository) (u : Update M) (x : Submission M) → Q u x → Q (stepped M D u) x
-    pub restart : (n : ℕ) (u : Update M) (x : Submission M) → Q u x → Q (anew M n u) x
+    pub restart : (n : ℕ) (u : Update M) (x : Submission M) → Q u x → Q (begun_again M n u) x
     pub deliver : (u : Update M) (x : Submission M) → Q u x → Q (delivered M u) x
     pub admit : (n : ℕ) (x : Submission M) → Q (admitted M n x) x
     pub answer : plain ≡ false → (u : Update M) (x : Submission M) (c : M.Choice) → Q u x → Q (answered M u c) x

@@ -7,7 +7,7 @@ use Rattle.def_machine.specs.Machine.{Machine, Laws, Avoids}
 use Rattle.def_machine.specs.Updates.{Read, Update, Deps, Precise, Coarse, hides, trail}
 use Rattle.def_machine.specs.Reads.{is_valid, all_valid, changed_read, first_that}
 use Rattle.def_machine.specs.Standings.{is_nil}
-use Rattle.def_machine.specs.Cascade.{Member, reads_of, read_depends, is_live, conflict_of, dependence_of, with_member, without_member, anew}
+use Rattle.def_machine.specs.Cascade.{Member, reads_of, read_depends, is_live, conflict_of, dependence_of, with_member, without_member, begun_again}
 use Rattle.def_machine.specs.Settle.{cause_of, settle, restart}
 use Rattle.def_machine.specs.Runs.{start, IsRun, AreRuns}
 use Rattle.def_machine.proofs.Basics.{if_both, some_map, some_if, some_or, some_first, all_from}
@@ -54,14 +54,14 @@ dependence_some M deps c D ms n u =
 
 -- the first of the updates, restarted or not, and the others
 pub settle_both : (M : Machine) (deps : Deps) (conflicting : Bool) (c j : ℕ) (E N : M.Repository) (ms : List (Member M)) (n : ℕ) (u : Update M) (us : List (Update M)) (P : List (Update M) → Type 0)
-    → (is_some (cause_of M deps conflicting c j E N ms n u) ≡ true → P (anew M n u ∷ restart M (suc n) (settle M deps conflicting c j (M.apply E (trail M u)) N (ms ++ record { number = n; trail = trail M u } ∷ []) (suc n) us) us))
+    → (is_some (cause_of M deps conflicting c j E N ms n u) ≡ true → P (begun_again M n u ∷ restart M (suc n) (settle M deps conflicting c j (M.apply E (trail M u)) N (ms ++ record { number = n; trail = trail M u } ∷ []) (suc n) us) us))
     → (is_some (cause_of M deps conflicting c j E N ms n u) ≡ false → P (u ∷ restart M (suc n) (settle M deps conflicting c j (M.apply E (trail M u)) (M.apply N (trail M u)) ms (suc n) us) us))
     → P (restart M n (settle M deps conflicting c j E N ms n (u ∷ us)) (u ∷ us))
 settle_both M deps conflicting c j E N ms n u us P f g = go (is_some (cause_of M deps conflicting c j E N ms n u)) f g
   where
-    go : (b : Bool) → (b ≡ true → P (anew M n u ∷ restart M (suc n) (settle M deps conflicting c j (M.apply E (trail M u)) N (ms ++ record { number = n; trail = trail M u } ∷ []) (suc n) us) us))
+    go : (b : Bool) → (b ≡ true → P (begun_again M n u ∷ restart M (suc n) (settle M deps conflicting c j (M.apply E (trail M u)) N (ms ++ record { number = n; trail = trail M u } ∷ []) (suc n) us) us))
         → (b ≡ false → P (u ∷ restart M (suc n) (settle M deps conflicting c j (M.apply E (trail M u)) (M.apply N (trail M u)) ms (suc n) us) us))
-        → P ((if b then anew M n u else u) ∷ restart M (suc n) (settle M deps conflicting c j (M.apply E (trail M u)) (without_member M b N u) (with_member M b ms n u) (suc n) us) us)
+        → P ((if b then begun_again M n u else u) ∷ restart M (suc n) (settle M deps conflicting c j (M.apply E (trail M u)) (without_member M b N u) (with_member M b ms n u) (suc n) us) us)
     go true f g = f refl
     go false f g = g refl
 
@@ -93,8 +93,8 @@ module _ (M : Machine) (L : Laws M) where
       (ap (λ x. M.same r.answer x) (sym (L.alike_value op r.query E N _ (a (M.mentions r.query) (avoids_all_from M r ms hs.0)))) ∙ vs.0)
       (unmentioned op own ms E N a rs hs.1 vs.1)
 
-  anew_trail : (n : ℕ) (u : Update M) → trail M (anew M n u) ≡ []
-  anew_trail n u =
+  begun_again_trail : (n : ℕ) (u : Update M) → trail M (begun_again M n u) ≡ []
+  begun_again_trail n u =
       if_both (λ ws. ws ≡ []) u.withdrawn _ _ (λ h. refl)
       (λ h. if_both (λ ws. ws ≡ []) (hides (M.outcome (M.begin n (suc u.attempt) u.operation))) _ _ (λ g. refl) (λ g. L.begin_own n (suc u.attempt) u.operation))
 
@@ -134,7 +134,7 @@ module _ (M : Machine) (L : Laws M) where
       (λ h. (
         record { present = λ w. start; gone = λ w. refl },
         subst (λ F. AreRuns M F (suc n) (restart M (suc n) (settle M deps conflicting c j (M.apply E (trail M u)) N (ms ++ record { number = n; trail = trail M u } ∷ []) (suc n) us) us))
-            (sym (ap (λ ws. M.apply N ws) (anew_trail n u) ∙ L.apply_none N))
+            (sym (ap (λ ws. M.apply N ws) (begun_again_trail n u) ∙ L.apply_none N))
             (settled_runs deps conflicting c j (M.apply D (trail M u)) (M.apply E (trail M u)) N (ms ++ record { number = n; trail = trail M u } ∷ []) (suc n) us (omega arith) next (apart_more ms E N (record { number = n; trail = trail M u }) a) r.1),
       ))
       (λ h. (

@@ -6,7 +6,7 @@ use Rattle.std.proofs.lemmas.Bool.{or_right, ltb-true, ltb-false, both_ways}
 use Rattle.std.proofs.lemmas.Option.{same_Some, none-some, slice_get_within}
 use Rattle.def_machine.specs.Machine.{Machine, Laws, Avoids}
 use Rattle.def_machine.specs.Updates.{Update, Session, Settings, hides, shown, trail, below, committed}
-use Rattle.def_machine.specs.Cascade.{readers, has_number, restarted, anew}
+use Rattle.def_machine.specs.Cascade.{readers, has_number, restarted, begun_again}
 use Rattle.def_machine.specs.Steps.{next_move, stepped}
 use Rattle.def_machine.specs.Effects.{Event, Admits, Steps, Delivers, Answers, Withdraws, Effect, causes_of_loss, causes_of_step, withdrawn_now, with_answers, step_effect, withdraw_effect, deliver_effect, answer_effect, may_step, may_deliver, may_answer, may_withdraw, effect}
 use Rattle.def_machine.specs.Local.{acts_on}
@@ -33,15 +33,15 @@ module _ (M : Machine) (L : Laws M) (swap : AlikeSwaps M) (p : ℕ → Bool) whe
       let rest : List M.Write = flat_map (trail M) (take k us) in
       let more : List M.Write = flat_map (trail M) (take k (restarted M ms (suc n) us)) in
       let parts = avoids_split M p (if has_number ns n then record { number = n; trail = trail M u } ∷ [] else []) (members_of M ns (suc n) (take k us)) v in
-      subst (λ F. M.Alike p F (M.apply E (trail M (if has_number ms n then anew M n u else u) ++ more))) (sym (L.apply_join D (trail M u) rest))
-      (subst (λ F. M.Alike p (M.apply (M.apply D (trail M u)) rest) F) (sym (L.apply_join E (trail M (if has_number ms n then anew M n u else u)) more))
-      (alike_restarted ns ms (suc n) k us (M.apply D (trail M u)) (M.apply E (trail M (if has_number ms n then anew M n u else u))) h (by (has_number ms n) refl (has_number ns n) refl parts.0) parts.1))
+      subst (λ F. M.Alike p F (M.apply E (trail M (if has_number ms n then begun_again M n u else u) ++ more))) (sym (L.apply_join D (trail M u) rest))
+      (subst (λ F. M.Alike p (M.apply (M.apply D (trail M u)) rest) F) (sym (L.apply_join E (trail M (if has_number ms n then begun_again M n u else u)) more))
+      (alike_restarted ns ms (suc n) k us (M.apply D (trail M u)) (M.apply E (trail M (if has_number ms n then begun_again M n u else u))) h (by (has_number ms n) refl (has_number ns n) refl parts.0) parts.1))
     where
-      none : trail M (anew M n u) ≡ []
+      none : trail M (begun_again M n u) ≡ []
       none = if_both (λ ws. ws ≡ []) u.withdrawn _ _ (λ g. refl)
           (λ g. if_both (λ ws. ws ≡ []) (hides (M.outcome (M.begin n (suc u.attempt) u.operation))) _ _ (λ f. refl) (λ f. L.begin_own n (suc u.attempt) u.operation))
 
-      by : (b : Bool) → has_number ms n ≡ b → (c : Bool) → has_number ns n ≡ c → AvoidsAll M p (if c then record { number = n; trail = trail M u } ∷ [] else []) → M.Alike p (M.apply D (trail M u)) (M.apply E (trail M (if b then anew M n u else u)))
+      by : (b : Bool) → has_number ms n ≡ b → (c : Bool) → has_number ns n ≡ c → AvoidsAll M p (if c then record { number = n; trail = trail M u } ∷ [] else []) → M.Alike p (M.apply D (trail M u)) (M.apply E (trail M (if b then begun_again M n u else u)))
       by false e c f v = L.alike_apply p D E (trail M u) a
       by true e true f v = subst (λ F. M.Alike p (M.apply D (trail M u)) F) (sym (ap (λ ws. M.apply E ws) none ∙ L.apply_none E)) (L.alike_skip p D E (trail M u) v.0 a)
       by true e false f v = absurd (both_ways _ f (h n e))

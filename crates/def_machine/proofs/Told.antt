@@ -5,7 +5,7 @@ use Rattle.std.proofs.lemmas.Bool.{and_from, eq-eqb, ne_eqb, both_ways, ltb-true
 use Rattle.std.proofs.lemmas.Option.{same_Some, none-some, option_and_then_some, slice_get_within}
 use Rattle.def_machine.specs.Machine.{Machine, Laws}
 use Rattle.def_machine.specs.Updates.{Update, Session, Settings, hides, shown, below, committed, Submission}
-use Rattle.def_machine.specs.Cascade.{readers, has_number, restarted, anew}
+use Rattle.def_machine.specs.Cascade.{readers, has_number, restarted, begun_again}
 use Rattle.def_machine.specs.Steps.{next_move, stepped, step_writes}
 use Rattle.def_machine.specs.Effects.{Event, Admits, Steps, Delivers, Answers, Withdraws, Entry, Effect, causes_of_loss, causes_of_step, withdrawn_now, delivered, answered, step_effect, withdraw_effect, deliver_effect, answer_effect, admitted, admit_effect, may_step, may_deliver, may_answer, may_withdraw, effect}
 use Rattle.def_machine.specs.Histories.{Log, empty_log, with_entry, after, causes_in}
@@ -79,7 +79,7 @@ module _ (M : Machine) (L : Laws M) (s : Settings) (S : Session M) where
 
       here : (k : ℕ) (v : Update M) → (u : Update M) × (slice_get us k ≡ Some u) → slice_get x.updates k ≡ Some v → hides (M.outcome v.state) ≡ false → M.own v.state ≡ written (suc k) v.attempt (entries ++ x.entry ∷ [])
       here k v u f g = cases k (M.own v.state ≡ written (suc k) v.attempt (entries ++ x.entry ∷ []))
-          (λ n. let y : anew M (suc k) u.0 ≡ v = same_at k v (anew M (suc k) u.0) f (c.restarts k u.0 u.1 n) in
+          (λ n. let y : begun_again M (suc k) u.0 ≡ v = same_at k v (begun_again M (suc k) u.0) f (c.restarts k u.0 u.1 n) in
           subst (λ (t : Update M). M.own t.state ≡ written (suc k) t.attempt (entries ++ x.entry ∷ [])) y
           (L.begin_own (suc k) (suc u.0.attempt) u.0.operation
           ∙ sym (written_join M (suc k) (suc u.0.attempt) entries x.entry ∙ (λ t. w.later k (suc u.0.attempt) u.0 u.1 (omega arith) t ++ alone (suc k) (suc u.0.attempt) (λ q. not_named k q n) t))))
@@ -93,7 +93,7 @@ module _ (M : Machine) (L : Laws M) (s : Settings) (S : Session M) where
 
       after_it : (k a : ℕ) (v : Update M) → (u : Update M) × (slice_get us k ≡ Some u) → slice_get x.updates k ≡ Some v → v.attempt < a → written (suc k) a (entries ++ x.entry ∷ []) ≡ []
       after_it k a v u f l = written_join M (suc k) a entries x.entry ∙ cases k (written (suc k) a entries ++ writes_by (suc k) a x.entry ≡ [])
-          (λ n. let y : anew M (suc k) u.0 ≡ v = same_at k v (anew M (suc k) u.0) f (c.restarts k u.0 u.1 n) in
+          (λ n. let y : begun_again M (suc k) u.0 ≡ v = same_at k v (begun_again M (suc k) u.0) f (c.restarts k u.0 u.1 n) in
           let up : suc u.0.attempt ≡ v.attempt = ap (λ (t : Update M). t.attempt) y in
           (λ t. w.later k a u.0 u.1 (omega (arith, l, up)) t ++ alone (suc k) a (λ q. not_named k q n) t))
           (λ n m. let y : u.0 ≡ v = same_at k v u.0 f (c.others k u.0 u.1 n (λ q. m (q ∙ is))) in

@@ -6,7 +6,7 @@ use Rattle.def_machine.specs.Machine.{Machine}
 use Rattle.def_machine.specs.Updates.{Update, Deps, trail}
 use Rattle.def_machine.specs.Reads.{changed_read, first_that}
 use Rattle.def_machine.specs.Standings.{is_nil}
-use Rattle.def_machine.specs.Cascade.{Cause, Conflict, reader, readers, Member, conflict_of, dependence_of, conflicts, cascade, has_number, with_member, without_member, is_live, read_depends, anew, restarted}
+use Rattle.def_machine.specs.Cascade.{Cause, Conflict, reader, readers, Member, conflict_of, dependence_of, conflicts, cascade, has_number, with_member, without_member, is_live, read_depends, begun_again, restarted}
 use Rattle.def_machine.specs.Settle.{or_else, cause_of, settle, restart, if_conflict, if_dependence, conflicts_in, dependences_in}
 use Rattle.def_machine.specs.Effects.{causes_of_writes, causes_of_loss}
 use Rattle.def_machine.specs.WalkLaw.{WalkLaw}
@@ -168,7 +168,7 @@ module _ (M : Machine) (deps : Deps) (c j : ℕ) where
   restarts_from ns conflicting E N ms n [] a = refl
   restarts_from ns conflicting E N ms n (u ∷ us) a =
       let x : Bool = is_some (marked conflicting E N ms n u) in
-      (λ i. (if a.0 i then anew M n u else u) ∷ restarts_from ns conflicting (M.apply E (trail M u)) (without_member M x N u) (with_member M x ms n u) (suc n) us a.1 i)
+      (λ i. (if a.0 i then begun_again M n u else u) ∷ restarts_from ns conflicting (M.apply E (trail M u)) (without_member M x N u) (with_member M x ms n u) (suc n) us a.1 i)
 
   pub numbers_of_writes : (E : M.Repository) (us : List (Update M)) → AreNumbers (readers (causes_of_writes M deps c j E us)) (suc j) (settle M deps true c j E E [] (suc j) us)
   numbers_of_writes E us =

@@ -6,7 +6,7 @@ use Rattle.std.proofs.lemmas.Option.{same_Some, none-some}
 use Rattle.def_machine.specs.Machine.{Machine, Laws}
 use Rattle.def_machine.specs.Updates.{Update, Session, Settings, below, committed}
 use Rattle.def_machine.specs.Standings.{is_nil, is_pending, standing}
-use Rattle.def_machine.specs.Cascade.{readers, has_number, restarted, anew}
+use Rattle.def_machine.specs.Cascade.{readers, has_number, restarted, begun_again}
 use Rattle.def_machine.specs.Steps.{stepped}
 use Rattle.def_machine.specs.Effects.{Steps, Delivers, Effect, causes_of_step, delivered, step_effect, deliver_effect, may_step, may_deliver, effect}
 use Rattle.def_machine.specs.Histories.{empty_log}
@@ -21,7 +21,7 @@ waiting_restarted : (M : Machine) (ns : List ℕ) (n : ℕ) (us : List (Update M
 waiting_restarted M ns n [] = refl
 waiting_restarted M ns n (u ∷ us) = by (has_number ns n) (waiting_restarted M ns (suc n) us)
   where
-    by : (b : Bool) → waiting M (restarted M ns (suc n) us) ≡ waiting M us → length (if b then anew M n u else u).inbox + waiting M (restarted M ns (suc n) us) ≡ length u.inbox + waiting M us
+    by : (b : Bool) → waiting M (restarted M ns (suc n) us) ≡ waiting M us → length (if b then begun_again M n u else u).inbox + waiting M (restarted M ns (suc n) us) ≡ length u.inbox + waiting M us
     by true h = ap (λ w. length u.inbox + w) h
     by false h = ap (λ w. length u.inbox + w) h
 

@@ -88,8 +88,8 @@ cascade M deps c firsts D members n (u ∷ us) =
     option_to_list joins ++ cascade M deps c firsts (without_member M b D u) (with_member M b members n u) (suc n) us
 
 -- A restart: the update loses its writes and its log and begins a new attempt, with the answers delivered so far.
-abbrev pub anew : (M : Machine) → ℕ → Update M → Update M
-anew M n u =
+abbrev pub begun_again : (M : Machine) → ℕ → Update M → Update M
+begun_again M n u =
     record {
       operation = u.operation;
       attempt = suc u.attempt;
@@ -103,4 +103,4 @@ anew M n u =
 -- The updates, with those of these numbers restarted; the first is update n.
 abbrev pub restarted : (M : Machine) → List ℕ → ℕ → List (Update M) → List (Update M)
 restarted M ns n [] = []
-restarted M ns n (u ∷ us) = (if has_number ns n then anew M n u else u) ∷ restarted M ns (suc n) us
+restarted M ns n (u ∷ us) = (if has_number ns n then begun_again M n u else u) ∷ restarted M ns (suc n) us

@@ -4,7 +4,7 @@ use Rattle.std.specs.List.{AllByRecursion}
 use Rattle.def_machine.specs.Machine.{Machine}
 use Rattle.def_machine.specs.Updates.{Read, Update, Session, Settings, Deps, trail, below}
 use Rattle.def_machine.specs.Reads.{is_valid, value_now}
-use Rattle.def_machine.specs.Cascade.{Cause, Conflict, Depends, readers, Member, reads_of, read_depends, has_number, anew}
+use Rattle.def_machine.specs.Cascade.{Cause, Conflict, Depends, readers, Member, reads_of, read_depends, has_number, begun_again}
 use Rattle.def_machine.specs.Steps.{stepped}
 use Rattle.def_machine.specs.Effects.{Event, Admits, Steps, Delivers, Answers, Withdraws, Effect, is_spent, effect}
 use Rattle.def_machine.specs.Local.{acts_on}
@@ -121,7 +121,7 @@ pub record AreCauses (M : Machine) (s : Settings) (S : Session M) (us : List (Up
   pub above : (i : ℕ) → has_number (readers (causes_in x.entry)) i ≡ true → acts_on us e < i
   -- an update that is named is restarted; any other, except the one that the event acts on, is unchanged
   pub restarts : (k : ℕ) (u : Update M) → slice_get us k ≡ Some u
-      → has_number (readers (causes_in x.entry)) (suc k) ≡ true → slice_get x.updates k ≡ Some (anew M (suc k) u)
+      → has_number (readers (causes_in x.entry)) (suc k) ≡ true → slice_get x.updates k ≡ Some (begun_again M (suc k) u)
   pub others : (k : ℕ) (u : Update M) → slice_get us k ≡ Some u
       → has_number (readers (causes_in x.entry)) (suc k) ≡ false → (suc k ≡ acts_on us e → ⊥)
       → slice_get x.updates k ≡ Some u

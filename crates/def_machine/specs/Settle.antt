@@ -2,7 +2,7 @@
 use Rattle.std.specs.Prelude.{ℕ, suc, Bool, if◌then◌else◌, List, [], ◌∷◌, Option, Some, None, is_some}
 use Rattle.def_machine.specs.Machine.{Machine}
 use Rattle.def_machine.specs.Updates.{Update, Deps, trail}
-use Rattle.def_machine.specs.Cascade.{Cause, Conflict, Depends, Member, conflict_of, dependence_of, with_member, without_member, anew}
+use Rattle.def_machine.specs.Cascade.{Cause, Conflict, Depends, Member, conflict_of, dependence_of, with_member, without_member, begun_again}
 
 -- The first, if it is there, or else the second.
 abbrev pub or_else : {A : Type 0} → Option A → Option A → Option A
@@ -28,7 +28,7 @@ settle M deps conflicting c j whole without members n (u ∷ us) =
 abbrev pub restart : (M : Machine) → ℕ → List (Option (Cause M)) → List (Update M) → List (Update M)
 restart M n xs [] = []
 restart M n [] (u ∷ us) = u ∷ us
-restart M n (x ∷ xs) (u ∷ us) = (if is_some x then anew M n u else u) ∷ restart M (suc n) xs us
+restart M n (x ∷ xs) (u ∷ us) = (if is_some x then begun_again M n u else u) ∷ restart M (suc n) xs us
 
 -- The causes, with this one first if it is a conflict.
 abbrev pub if_conflict : {M : Machine} → Cause M → List (Cause M) → List (Cause M)

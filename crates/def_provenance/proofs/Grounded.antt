@@ -1,4 +1,4 @@
--- What a reason rests on has its reason behind it.
+-- What a reason rests on has its reason after it.
 use Rattle.std.proofs.Common.{◌≡◌, ◌∙◌, ap, refl, sym, Bool, true, false, ◌&&◌, ◌||◌, not, List, [], ◌∷◌, ◌++◌, map, filter, find, Some}
 use Rattle.std.specs.Prelude.{if◌then◌else◌}
 use Rattle.std.specs.List.{AllByRecursion, flat_map}
@@ -11,10 +11,10 @@ use Rattle.def_provenance.specs.Puts.{Step, puts}
 use Rattle.def_provenance.specs.Reasons.{Reason, rooted, reason_at, premises, sought_before, explained}
 use Rattle.def_provenance.specs.Laws.{is_told, origin, AreGrounded, ExplanationsAreGrounded}
 
--- Behind other reasons a tuple's reason stands as well.
-told_behind : (rs more : List Reason) (t : Fact) → is_told more t ≡ true → is_told (rs ++ more) t ≡ true
-told_behind [] more t e = e
-told_behind (r ∷ rs) more t e = by (same_fact t r.tuple) (told_behind rs more t e)
+-- With other reasons before it a tuple's reason stands as well.
+told_after : (rs more : List Reason) (t : Fact) → is_told more t ≡ true → is_told (rs ++ more) t ≡ true
+told_after [] more t e = e
+told_after (r ∷ rs) more t e = by (same_fact t r.tuple) (told_after rs more t e)
   where
     by : (b : Bool) → is_told (rs ++ more) t ≡ true → (b || is_told (rs ++ more) t) ≡ true
     by true k = refl
@@ -76,9 +76,9 @@ told_all (s ∷ ss) sought t e = by (puts s t) refl (λ k. told_all ss next t k)
         told_before rs (explained ss next) t
         (sym (made_for (reason_at s) (λ u. refl) (filter (puts s) sought) t)
         ∙ (has-filter (puts s) sought t ∙ (λ i. e i && f i)))
-    by false f rec = told_behind rs (explained ss next) t (rec (still (filter (λ u. not (puts s u)) sought) (flat_map (λ (r : Reason). premises r.how) rs) t (first false e f)))
+    by false f rec = told_after rs (explained ss next) t (rec (still (filter (λ u. not (puts s u)) sought) (flat_map (λ (r : Reason). premises r.how) rs) t (first false e f)))
 
--- What each of the reasons rests on is told behind all of them.
+-- What each of the reasons rests on is told after all of them.
 abbrev AllToldIn : List Reason → List Reason → Type 0
 AllToldIn rs later = (t : Fact) → has (flat_map (λ (r : Reason). premises r.how) rs) t ≡ true → is_told later t ≡ true
 
@@ -107,7 +107,7 @@ grounded_on : (rs later : List Reason) → AllToldIn rs later → AreGrounded la
 grounded_on [] later h g = g
 grounded_on (r ∷ rs) later h g = (
   each_told (premises r.how) (rs ++ later)
-      (λ t k. told_behind rs later t
+      (λ t k. told_after rs later t
       (h t (has-join (premises r.how) (flat_map (λ (x : Reason). premises x.how) rs) t ∙ either_left (has (premises r.how) t) _ k))),
   grounded_on rs later
       (λ t k. h t (has-join (premises r.how) (flat_map (λ (x : Reason). premises x.how) rs) t ∙ either_right (has (premises r.how) t) _ k)) g,
@@ -145,7 +145,7 @@ made_first reason is (u ∷ us) rest t e = by (same_fact t (reason u).tuple) ref
     by true f rec = ap (λ v. Some (reason v)) (sym (same_exact t u (ap (same_fact t) (sym (is u)) ∙ f)))
     by false f rec = rec (away (same_fact t u) e (ap (same_fact t) (sym (is u)) ∙ f))
 
--- Behind those made for other tuples.
+-- After those made for other tuples.
 made_for_others : (reason : Fact → Reason) → ((u : Fact) → (reason u).tuple ≡ u) → (us : List Fact) (rest : List Reason) (t : Fact) → has us t ≡ false → find (for_it t) (map reason us ++ rest) ≡ find (for_it t) rest
 made_for_others reason is [] rest t e = refl
 made_for_others reason is (u ∷ us) rest t e = by (same_fact t (reason u).tuple) refl (λ k. made_for_others reason is us rest t k)

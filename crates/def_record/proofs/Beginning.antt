@@ -12,20 +12,20 @@ use Rattle.def_record.specs.Marks.{entered}
 use Rattle.def_record.specs.Records.{Now, begun, updates_in, after_items, AllFollow}
 use Rattle.def_record.specs.Openings.{OpeningLaw}
 
--- what stands behind as many elements as the first list has
-behind : {A : Type 0} → List A → List A → Option A
-behind [] [] = None
-behind [] (y ∷ ys) = Some y
-behind (x ∷ xs) [] = None
-behind (x ∷ xs) (y ∷ ys) = behind xs ys
+-- what stands after as many elements as the first list has
+next_after : {A : Type 0} → List A → List A → Option A
+next_after [] [] = None
+next_after [] (y ∷ ys) = Some y
+next_after (x ∷ xs) [] = None
+next_after (x ∷ xs) (y ∷ ys) = next_after xs ys
 
-behind_is : {A : Type 0} (xs : List A) (y : A) (ys : List A) → behind xs (xs ++ y ∷ ys) ≡ Some y
-unfolding behind
-behind_is [] y ys = refl
-behind_is (x ∷ xs) y ys = behind_is xs y ys
+next_after_is : {A : Type 0} (xs : List A) (y : A) (ys : List A) → next_after xs (xs ++ y ∷ ys) ≡ Some y
+unfolding next_after
+next_after_is [] y ys = refl
+next_after_is (x ∷ xs) y ys = next_after_is xs y ys
 
 same_next : {A : Type 0} (xs : List A) (y : A) (ys : List A) (z : A) (zs : List A) → xs ++ y ∷ ys ≡ xs ++ z ∷ zs → y ≡ z
-same_next xs y ys z zs e = same_Some y z (sym (behind_is xs y ys) ∙ (ap (behind xs) e ∙ behind_is xs z zs))
+same_next xs y ys z zs e = same_Some y z (sym (next_after_is xs y ys) ∙ (ap (next_after xs) e ∙ next_after_is xs z zs))
 
 module _ (M : Machine) (s : Settings) (S : Session M) where
   -- entries are added at the end

@@ -27,8 +27,8 @@ pub data Stands (before : Bool) (ws : List Change) (t : Fact) : Type 0 where
   By : IsInserted ws t → Stands before ws t
   Stayed : before ≡ true → Silent ws t → Stands before ws t
 
-behind : (w : Change) (ws : List Change) (t : Fact) → IsInserted ws t → IsInserted (w ∷ ws) t
-behind w ws t x = record { before = w ∷ x.before; after = x.after; there = ap (λ l. w ∷ l) x.there; last = x.last }
+later : (w : Change) (ws : List Change) (t : Fact) → IsInserted ws t → IsInserted (w ∷ ws) t
+later w ws t x = record { before = w ∷ x.before; after = x.after; there = ap (λ l. w ∷ l) x.there; last = x.last }
 
 here : (ws : List Change) (t : Fact) → Silent ws t → IsInserted (Insert t ∷ ws) t
 here ws t s = record { before = []; after = ws; there = refl; last = s }
@@ -42,13 +42,13 @@ stands_from b [] t e = Stayed e tt
 stands_from b (Insert s ∷ ws) t e = by (same_fact t s) refl (stands_from (same_fact t s || b) ws t e)
   where
     by : (r : Bool) → same_fact t s ≡ r → Stands (r || b) ws t → Stands b (Insert s ∷ ws) t
-    by r q (By x) = By (behind (Insert s) ws t x)
+    by r q (By x) = By (later (Insert s) ws t x)
     by true q (Stayed h n) = let same : t ≡ s = same_exact t s q in By (subst (λ (u : Fact). IsInserted (Insert u ∷ ws) t) same (here ws t n))
     by false q (Stayed h n) = Stayed h (λ h. false≢true (sym q ∙ ap (λ (u : Fact). same_fact t u) h ∙ same_itself t), n)
 stands_from b (Delete s ∷ ws) t e = by (same_fact t s) refl b refl (stands_from (b && not (same_fact t s)) ws t e)
   where
     by : (r : Bool) → same_fact t s ≡ r → (c : Bool) → b ≡ c → Stands (c && not r) ws t → Stands b (Delete s ∷ ws) t
-    by r q c d (By x) = By (behind (Delete s) ws t x)
+    by r q c d (By x) = By (later (Delete s) ws t x)
     by true q c d (Stayed h n) = absurd (false≢true (off_false c h))
     by false q true d (Stayed h n) = Stayed d (λ h. false≢true (sym q ∙ ap (λ (u : Fact). same_fact t u) h ∙ same_itself t), n)
     by false q false d (Stayed h n) = absurd (false≢true h)

@@ -40,7 +40,7 @@ pub record Update : Type 0 where
 pub data Source : Type 0 where
   By : ℕ → Source
   Fix : ℕ → Source
-  Anew : Source
+  Draw : Source
 
 -- A question, identified by its mapping and, by names, the generated tuple or the tuples of which some must be deleted.
 pub record Asked : Type 0 where

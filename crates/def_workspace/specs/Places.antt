@@ -3,7 +3,7 @@ use Rattle.std.specs.Prelude.{ℕ, suc, ◌==◌, nat_lt, Bool, true, false, not
 use Rattle.std.specs.List.{list_any}
 use Rattle.std.specs.Cmp.Lexicographic.{pointwise}
 use Rattle.def_chase.specs.Values.{Fact, same_fact}
-use Rattle.def_workspace.specs.Lines.{Source, By, Fix, Anew}
+use Rattle.def_workspace.specs.Lines.{Source, By, Fix, Draw}
 
 -- The cause of an unknown: a mapping draws it for its variable of this number, when its left side has this image, by names.
 pub record Cause : Type 0 where
@@ -24,13 +24,13 @@ Places = List Place
 abbrev pub same_source : Source → Source → Bool
 same_source (By m) (By n) = m == n
 same_source (By m) (Fix n) = false
-same_source (By m) Anew = false
+same_source (By m) Draw = false
 same_source (Fix m) (By n) = false
 same_source (Fix m) (Fix n) = m == n
-same_source (Fix m) Anew = false
-same_source Anew (By n) = false
-same_source Anew (Fix n) = false
-same_source Anew Anew = true
+same_source (Fix m) Draw = false
+same_source Draw (By n) = false
+same_source Draw (Fix n) = false
+same_source Draw Draw = true
 
 -- The two causes are the same.
 abbrev pub same_cause : Cause → Cause → Bool

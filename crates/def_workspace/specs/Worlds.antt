@@ -5,7 +5,7 @@ use Rattle.std.specs.List.{flat_map, slice_get}
 use Rattle.def_chase.specs.Values.{Fact}
 use Rattle.def_chase.specs.Violations.{Scope, Every, first_violation}
 use Rattle.def_chase.specs.Updates.{Operation, Enacts}
-use Rattle.def_workspace.specs.Lines.{Update, Deed, Inserts, Deletes, Fills, Swaps, Fixes, Forces, Drops, By, Fix, Anew, Asked, Given, Declared}
+use Rattle.def_workspace.specs.Lines.{Update, Deed, Inserts, Deletes, Fills, Swaps, Fixes, Forces, Drops, By, Fix, Draw, Asked, Given, Declared}
 use Rattle.def_workspace.specs.Names.{Names}
 use Rattle.def_workspace.specs.Places.{Places, among}
 use Rattle.def_workspace.specs.Hidden.{drawing_rule, fixing_rule}
@@ -46,7 +46,7 @@ active_in ds ms = flat_map (λ m. active_by m (slice_get ds m)) ms
 
 abbrev pub drawing : ℕ → List Active
 drawing zero = []
-drawing (suc n) = record { source = Anew; rule = drawing_rule } ∷ []
+drawing (suc n) = record { source = Draw; rule = drawing_rule } ∷ []
 
 abbrev pub fixing : ℕ → Option Declared → List Active
 fixing m None = []

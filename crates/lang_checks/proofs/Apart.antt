@@ -26,8 +26,8 @@ before t u lt = by (nat_cmp t.relation u.relation) (ranked t.relation u.relation
   by Equal m = absurd (omega arith)
   by Greater m = absurd (omega arith)
 
-behind : (t u : Fact) → u.relation < t.relation → fact_cmp t u ≡ Greater
-behind t u lt = by (nat_cmp t.relation u.relation) (ranked t.relation u.relation _ refl) where
+after : (t u : Fact) → u.relation < t.relation → fact_cmp t u ≡ Greater
+after t u lt = by (nat_cmp t.relation u.relation) (ranked t.relation u.relation _ refl) where
   by : (o : Ordering) → MatchOrdering o (t.relation < u.relation) (t.relation ≡ u.relation) (u.relation < t.relation) → ordering_then o (slice_cmp datum_cmp t.values u.values) ≡ Greater
   by Less m = absurd (omega arith)
   by Equal m = absurd (omega arith)
@@ -40,9 +40,9 @@ AreBelow r D = AllByRecursion (λ u. u.relation < r) D
 abbrev AreAbove : ℕ → List Fact → Type 0
 AreAbove r D = AllByRecursion (λ u. r < u.relation) D
 
-put_behind : (D E : List Fact) (t : Fact) → AreBelow t.relation D → insert_key fact_cmp (D ++ E) t ≡ D ++ insert_key fact_cmp E t
-put_behind [] E t a = refl
-put_behind (u ∷ D) E t a = rw (behind t u a.0) (ap (λ l. u ∷ l) (put_behind D E t a.1))
+put_after : (D E : List Fact) (t : Fact) → AreBelow t.relation D → insert_key fact_cmp (D ++ E) t ≡ D ++ insert_key fact_cmp E t
+put_after [] E t a = refl
+put_after (u ∷ D) E t a = rw (after t u a.0) (ap (λ l. u ∷ l) (put_after D E t a.1))
 
 put_before : (D E : List Fact) (t : Fact) → AreAbove t.relation E → insert_key fact_cmp (D ++ E) t ≡ insert_key fact_cmp D t ++ E
 put_before [] [] t a = refl
@@ -60,7 +60,7 @@ none_above (u ∷ D) t a = rw (before t u a.0) (none_above D t a.1)
 
 none_below : (D : List Fact) (t : Fact) → AreBelow t.relation D → has D t ≡ false
 none_below [] t a = refl
-none_below (u ∷ D) t a = rw (behind t u a.0) (none_below D t a.1)
+none_below (u ∷ D) t a = rw (after t u a.0) (none_below D t a.1)
 
 -- ---- sets that are apart
 
@@ -86,7 +86,7 @@ put_apart n [] i D E t a lt is r put = absurd (omega arith)
 put_apart n (F ∷ Ds) zero D E t a lt is r put =
     ap (λ G. G ++ gathered Ds) (put ∙ ap (λ G. insert_key fact_cmp G t) is) ∙ sym (put_before F (gathered Ds) t (later (suc n) t.relation Ds (omega arith) a.1))
 put_apart n (F ∷ Ds) (suc i) D E t a lt is r put =
-    ap (λ l. F ++ l) (put_apart (suc n) Ds i D E t a.1 (omega arith) is (omega arith) put) ∙ sym (put_behind F (gathered Ds) t (lesser n t.relation F (omega arith) a.0))
+    ap (λ l. F ++ l) (put_apart (suc n) Ds i D E t a.1 (omega arith) is (omega arith) put) ∙ sym (put_after F (gathered Ds) t (lesser n t.relation F (omega arith) a.0))
 
 pub kept_apart : (n : ℕ) (Ds : List (List Fact)) (i : ℕ) (D E : List Fact) (t : Fact) → AreApart n Ds → i < length Ds → D ≡ get_or Ds i D → t.relation ≡ n + i → E ≡ insert_key fact_cmp D t → AreApart n (slice_set Ds i E)
 kept_apart n [] i D E t a lt is r put = absurd (omega arith)

@@ -21,6 +21,6 @@ no_word line place e = rw e refl
 pub one_word : (line : List ℕ) (place : ℕ) (token : Token) → tokens_from place line ≡ with_front (token ∷ []) (tokens_from token.to line) → is_faultless token.to line ≡ true
     → words_from place line ≡ word_of line token ∷ words_from token.to line
 one_word line place token e faultless = by (tokens_from place line) (tokens_from token.to line) e faultless where
-  by : (whole behind : Result (List Token) LexRefusal) → whole ≡ with_front (token ∷ []) behind → is_ok behind ≡ true → map (word_of line) (found whole) ≡ word_of line token ∷ map (word_of line) (found behind)
+  by : (whole after : Result (List Token) LexRefusal) → whole ≡ with_front (token ∷ []) after → is_ok after ≡ true → map (word_of line) (found whole) ≡ word_of line token ∷ map (word_of line) (found after)
   by whole (Ok tokens) e ok = rw e refl
   by whole (Err refusal) e ok = let f : ⊥ = cc in absurd f

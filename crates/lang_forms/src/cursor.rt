@@ -40,10 +40,10 @@ impl<'a> Words<'a> {
             return None;
         };
         let word = Word::of(token.kind, &self.line[token.from..token.to]);
-        let behind = Words {
+        let rest = Words {
             line: self.line,
             place: token.to,
         };
-        Some((word, behind))
+        Some((word, rest))
     }
 }

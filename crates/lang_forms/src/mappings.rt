@@ -68,12 +68,12 @@ fn left_atoms(alloc: Global, words: Words<'_>) -> Result<(RawAtomList, Words<'_>
     let mut found = List::new(alloc);
     let mut rest = words;
     'items: loop {
-        let (item, more, behind) = left_atom(alloc, rest)?;
+        let (item, more, after) = left_atom(alloc, rest)?;
         found.push(item)?;
         if !more {
-            return Ok((found, behind));
+            return Ok((found, after));
         }
-        rest = behind;
+        rest = after;
     }
 }
 
@@ -85,12 +85,12 @@ fn right_atoms(alloc: Global, words: Words<'_>) -> Result<(RawAtomList, Words<'_
     let mut found = List::new(alloc);
     let mut rest = words;
     'items: loop {
-        let (item, more, behind) = right_atom(alloc, rest)?;
+        let (item, more, after) = right_atom(alloc, rest)?;
         found.push(item)?;
         if !more {
-            return Ok((found, behind));
+            return Ok((found, after));
         }
-        rest = behind;
+        rest = after;
     }
 }
 
@@ -102,12 +102,12 @@ fn last_facts(alloc: Global, words: Words<'_>) -> Result<(RawFactList, Words<'_>
     let mut found = List::new(alloc);
     let mut rest = words;
     'items: loop {
-        let (item, more, behind) = last_fact(alloc, rest)?;
+        let (item, more, after) = last_fact(alloc, rest)?;
         found.push(item)?;
         if !more {
-            return Ok((found, behind));
+            return Ok((found, after));
         }
-        rest = behind;
+        rest = after;
     }
 }
 

@@ -139,12 +139,12 @@ fn values_at(alloc: Global, words: Words<'_>) -> Result<(ValueList, Words<'_>), 
     let mut found = List::new(alloc);
     let mut rest = words;
     'items: loop {
-        let (item, more, behind) = value_at(alloc, rest)?;
+        let (item, more, after) = value_at(alloc, rest)?;
         found.push(item)?;
         if !more {
-            return Ok((found, behind));
+            return Ok((found, after));
         }
-        rest = behind;
+        rest = after;
     }
 }
 
@@ -157,12 +157,12 @@ fn terms_at(alloc: Global, words: Words<'_>) -> Result<(RawTermList, Words<'_>),
     let mut found = List::new(alloc);
     let mut rest = words;
     'items: loop {
-        let (item, more, behind) = term_at(alloc, rest)?;
+        let (item, more, after) = term_at(alloc, rest)?;
         found.push(item)?;
         if !more {
-            return Ok((found, behind));
+            return Ok((found, after));
         }
-        rest = behind;
+        rest = after;
     }
 }
 
@@ -175,8 +175,8 @@ pub(crate) fn fact_at(alloc: Global, words: Words<'_>) -> Result<(RawFact, Words
 {
     let (relation, rest) = name_at(alloc, words)?;
     let inside = open_at(rest)?;
-    let (values, behind) = values_at(alloc, inside)?;
-    Ok((RawFact { relation, values }, behind))
+    let (values, after) = values_at(alloc, inside)?;
+    Ok((RawFact { relation, values }, after))
 }
 
 /// An atom, and the words after it.
@@ -188,6 +188,6 @@ pub(crate) fn atom_at(alloc: Global, words: Words<'_>) -> Result<(RawAtom, Words
 {
     let (relation, rest) = name_at(alloc, words)?;
     let inside = open_at(rest)?;
-    let (terms, behind) = terms_at(alloc, inside)?;
-    Ok((RawAtom { relation, terms }, behind))
+    let (terms, after) = terms_at(alloc, inside)?;
+    Ok((RawAtom { relation, terms }, after))
 }

@@ -19,10 +19,10 @@ escaped_byte opened place said [] two quote backslash is = absurd (omega arith)
 escaped_byte opened place said (b ∷ []) two quote backslash is = absurd (omega arith)
 escaped_byte opened place said (b ∷ c ∷ rest) two quote backslash is = rw (quote, backslash, is) refl
 
--- how much is said and how many bytes spell it, behind so much and so many
+-- how much is said and how many bytes spell it, counted on from these numbers
 abbrev pub added : ℕ → ℕ → Result (List ℕ × ℕ) LexRefusal → Result (ℕ × ℕ) LexRefusal
 added count width read = read >>= (λ x. Ok (count + length x.0, width + x.1))
 
--- what is said and how many bytes spell it, behind what was said and so many
+-- what is said and how many bytes spell it, after what was said before and its bytes
 abbrev pub carried : List ℕ → ℕ → Result (List ℕ × ℕ) LexRefusal → Result (List ℕ × ℕ) LexRefusal
 carried said width read = read >>= (λ x. Ok (said ++ x.0, width + x.1))

@@ -108,7 +108,7 @@ plain_longest place b rest digit = by (run is_digit (b ∷ rest) == 0) (is_wide 
   by false true e f = rw (e, f) tt
   by false false e f = rw (e, f) (digits_longest b rest digit)
 
--- behind a minus
+-- after a minus
 after_minus : (rest : List ℕ) (width : ℕ) → 1 ≤ width → ((m : ℕ) → width < m + 1 → m ≤ length rest → (spells Number (45 ∷ take m rest) ≡ false) × (spells Arrow (45 ∷ take m rest) ≡ false)) → IsLongest (45 ∷ rest) width
 after_minus rest width some two Number n more inside = ap (spells Number) (taken n 45 rest (omega arith)) ∙ (two (n - 1) (omega arith) (omega arith)).0
 after_minus rest width some two Arrow n more inside = ap (spells Arrow) (taken n 45 rest (omega arith)) ∙ (two (n - 1) (omega arith) (omega arith)).1
@@ -156,7 +156,7 @@ minus_longest place (c ∷ rest) = by (c == 62) refl where
   by true e = rw e (arrow_longest c rest e)
   by false e = rw e (signed_longest place c rest e)
 
--- behind the `?` of a null
+-- after the `?` of a null
 after_mark : (rest : List ℕ) (width : ℕ) → 1 ≤ width → ((m : ℕ) → width < m + 1 → m ≤ length rest → spells Null (63 ∷ take m rest) ≡ false) → IsLongest (63 ∷ rest) width
 after_mark rest width some one Null n more inside = ap (spells Null) (taken n 63 rest (omega arith)) ∙ one (n - 1) (omega arith) (omega arith)
 after_mark rest width some one Name n more inside = none Name n 63 rest (omega arith) refl
@@ -209,7 +209,7 @@ null_longest place rest = by (run is_digit rest == 0) refl where
       rw e (subst (λ (l : List ℕ). Longest (63 ∷ l) (point_at place (digits_of rest) (drop (run is_digit rest) rest))) whole
       (point_longest place (digits_of rest) (drop (run is_digit rest) rest) (digits_are rest e) (run_all is_digit rest)))
 
--- behind the quote of a text
+-- after the quote of a text
 after_quote : (rest : List ℕ) (width : ℕ) → 1 ≤ width → ((m : ℕ) → width < m + 1 → m ≤ length rest → spells Text (34 ∷ take m rest) ≡ false) → IsLongest (34 ∷ rest) width
 after_quote rest width some one Text n more inside = ap (spells Text) (taken n 34 rest (omega arith)) ∙ one (n - 1) (omega arith) (omega arith)
 after_quote rest width some one Name n more inside = none Name n 34 rest (omega arith) refl

@@ -10,7 +10,7 @@ use Rattle.def_language.specs.QuotedTexts.{escaped, says, says_escaped, text_fro
 use Rattle.def_language.specs.Tokens.{number_at, minus_at, point_at, null_at, sign, sign_at, token_at}
 use Rattle.def_language.specs.LineTokens.{tokens_at}
 
--- a fault, if there is one, stands at no place behind n
+-- a fault, if there is one, stands at no place after n
 abbrev pub Within : {A : Type 0} → ℕ → Result A LexRefusal → Type 0
 Within n (Ok x) = Unit {0}
 Within n (Err refusal) = place_in refusal ≤ n

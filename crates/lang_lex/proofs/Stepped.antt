@@ -1,4 +1,4 @@
--- A line, step by step: what stands first from a place on, and the tokens behind it.
+-- A line, step by step: what stands first from a place on, and the tokens after it.
 use Rattle.std.proofs.Common.{◌≡◌, ℕ, ◌+◌, ◌-◌, ◌<◌, ◌≤◌, true, false, List, [], ◌∷◌, refl, sym, ap, ap₂, ◌∙◌, arith, take, drop, length, get_or, subst}
 use Rattle.std.specs.Prelude.{Result, Ok, Err, IfOk, ◌==◌}
 use Rattle.std.proofs.lemmas.List.{drop_all, length-drop, drop-drop}

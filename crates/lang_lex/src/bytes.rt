@@ -51,7 +51,7 @@ pub(crate) fn digit_run(bytes: &[u8]) -> usize
 }
 
 /// The bytes from a place on.
-pub(crate) fn behind(bytes: &[u8], place: usize) -> &[u8]
+pub(crate) fn bytes_from(bytes: &[u8], place: usize) -> &[u8]
     requires { place ≤ length bytes.now }
     ensures { result.now ≡ drop place bytes.now }
 {

@@ -6,12 +6,12 @@ ghost use Rattle.def_language.specs.Bytes.{is_blank};
 ghost use Rattle.def_language.specs.LineTokens.{is_faultless, tokens_at, tokens_from, with_front};
 ghost use Rattle.def_language.specs.Spelling.{IsLongestIn, IsTokenAt};
 
-use crate::bytes::{behind, is_blank};
+use crate::bytes::{bytes_from, is_blank};
 use crate::tokens::token_at;
 use crate::{LexRefusal, Token};
 
 // The first place from `place` on whose byte is no blank, or the end of the line.
-fn behind_blanks(line: &[u8], place: usize) -> usize
+fn after_blanks(line: &[u8], place: usize) -> usize
     requires { place ≤ length line.now }
     ensures same { tokens_from place line.now ≡ tokens_from result line.now }
     ensures stops { result < length line.now → is_blank (slice_index line.now result) ≡ false }
@@ -38,14 +38,14 @@ fn token_from(line: &[u8], place: usize) -> Result<Option<Token>, LexRefusal>
     ensures longest { IfOk result (λ first. IfSome first (IsLongestIn 0 line.now)) }
     ensures fault { IfErr result (λ refusal. tokens_from place line.now ≡ Err refusal) }
 {
-    let from = behind_blanks(line, place);
+    let from = after_blanks(line, place);
     if from == line.len() {
         return Ok(None);
     }
     if line[from] == b'#' {
         return Ok(None);
     }
-    let (kind, width) = token_at(from, behind(line, from))?;
+    let (kind, width) = token_at(from, bytes_from(line, from))?;
     let to = from + width;
     Ok(Some(Token { kind, from, to }))
 }

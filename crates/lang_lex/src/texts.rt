@@ -3,7 +3,7 @@
 ghost use Rattle.std.specs.Prelude.{◌≡◌, ◌+◌, ◌^◌, ◌<◌, ◌≤◌, [], IfErr, IfOk, MatchOption, Ok, Err, drop, length};
 ghost use Rattle.def_language.specs.QuotedTexts.{closed, escaped, says, text_at, text_from};
 
-use crate::bytes::behind;
+use crate::bytes::bytes_from;
 use crate::{LexRefusal, TokenKind};
 
 /// The byte that a byte stands for directly after a backslash, if it may stand there.
@@ -79,7 +79,7 @@ pub(crate) fn text_at(opened: usize, rest: &[u8]) -> Result<(TokenKind, usize), 
     let mut count = 0;
     let mut width = 0;
     'said: loop {
-        match next_byte(opened, opened + 1 + width, behind(rest, width))? {
+        match next_byte(opened, opened + 1 + width, bytes_from(rest, width))? {
             Some((_, more)) => {
                 count += 1;
                 width += more;

@@ -4,7 +4,7 @@ ghost use Rattle.std.specs.Prelude.{◌≡◌, ◌≤◌, IfOk, length, true};
 ghost use Rattle.def_language.specs.Spelling.{null_of, number_of, spells, text_of};
 ghost use Rattle.def_language.specs.declared.tokens.TokenKind.TheVariants.{Null, Number, Text};
 
-use crate::bytes::{behind, digit_run};
+use crate::bytes::{bytes_from, digit_run};
 use crate::numbers::magnitude;
 use crate::texts::next_byte;
 use base_types::{List, Memory, OuterName, Word};
@@ -32,10 +32,10 @@ pub fn null_of(spelling: &[u8]) -> OuterName
     ensures update { result.update ≡ (null_of spelling.now).0 }
     ensures place { result.place ≡ (null_of spelling.now).1 }
 {
-    let rest = behind(spelling, 1);
+    let rest = bytes_from(spelling, 1);
     let count = digit_run(rest);
     let update = magnitude(&rest[..count]);
-    let place = magnitude(behind(rest, count + 1));
+    let place = magnitude(bytes_from(rest, count + 1));
     OuterName {
         update: update as u32,
         place: place as u32,
@@ -48,11 +48,11 @@ pub fn text_of(alloc: Global, spelling: &[u8]) -> Result<Word, Memory>
     ensures said { IfOk result (λ word. word.items ≡ text_of spelling.now) }
     ensures short { IfOk result (λ word. length word.items ≤ 256) }
 {
-    let rest = behind(spelling, 1);
+    let rest = bytes_from(spelling, 1);
     let mut said = Vec::new(alloc);
     let mut width = 0;
     'said: loop {
-        let Ok(next) = next_byte(0, 1 + width, behind(rest, width)) else {
+        let Ok(next) = next_byte(0, 1 + width, bytes_from(rest, width)) else {
             unreachable!()
         };
         let Some((byte, more)) = next else {

@@ -13,18 +13,18 @@ use Rattle.def_language.specs.Sessions.{SessionData}
 use Rattle.lang_print.specs.Lines.{base_statements, mapping_statements, relation_statement, with_line, with_lines}
 
 -- lines that follow a page which ends with a line feed
-pub lines_behind : {A : Type 0} (words : A → List Word) (page : Written) (items : List A) → page.apart ≡ false
+pub lines_after : {A : Type 0} (words : A → List Word) (page : Written) (items : List A) → page.apart ≡ false
     → (with_lines words page items).text ≡ page.text ++ flat_map (λ x. laid_out (words x) ++ 10 ∷ []) items
-lines_behind words page [] start = sym (append-nil page.text)
-lines_behind words page (x ∷ items) start =
-    lines_behind words (with_line page (words x)) items refl
+lines_after words page [] start = sym (append-nil page.text)
+lines_after words page (x ∷ items) start =
+    lines_after words (with_line page (words x)) items refl
     ∙ ap (λ (t : List ℕ). (t ++ 10 ∷ []) ++ flat_map (λ y. laid_out (words y) ++ 10 ∷ []) items) (line_text page (words x) start)
     ∙ ap (λ (t : List ℕ). t ++ flat_map (λ y. laid_out (words y) ++ 10 ∷ []) items) (append_assoc page.text (laid_out (words x)) (10 ∷ []))
     ∙ append_assoc page.text (laid_out (words x) ++ 10 ∷ []) (flat_map (λ y. laid_out (words y) ++ 10 ∷ []) items)
 
 -- lines on a page of their own
 pub lines_alone : {A : Type 0} (words : A → List Word) (items : List A) → (with_lines words blank items).text ≡ flat_map (λ x. laid_out (words x) ++ 10 ∷ []) items
-lines_alone words items = lines_behind words blank items refl
+lines_alone words items = lines_after words blank items refl
 
 -- a fold over a first item, four lists and a last item
 pub in_six_parts : {A B : Type 0} (step : B → A → B) (start : B) (x : A) (ws xs ys zs : List A) (y : A)
@@ -35,7 +35,7 @@ in_six_parts step start x ws xs ys zs y =
     ∙ fold-append step (fold step (fold step (step start x) ws) xs) ys (zs ++ y ∷ [])
     ∙ fold-append step (fold step (fold step (fold step (step start x) ws) xs) ys) zs (y ∷ []))
 
--- the parts of a session, one behind the other
+-- the parts of a session, one after the other
 pub session_text : (s : SessionData) (header relations mappings base updates whole : Written)
     → header ≡ with_line blank (statement_words (Header s.format))
     → relations ≡ with_lines statement_words header (map relation_statement s.relations)

@@ -15,7 +15,7 @@ with_line page words = with_line_feed (with_words page words)
 
 -- the page with a line for each item
 abbrev pub with_lines : {A : Type 0} → (A → List Word) → Written → List A → Written
-with_lines words page items = fold (λ behind x. with_line behind (words x)) page items
+with_lines words page items = fold (λ so_far x. with_line so_far (words x)) page items
 
 -- the relations by number
 abbrev pub relation_statement : RelationSchema → Statement

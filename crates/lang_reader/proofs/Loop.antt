@@ -21,8 +21,8 @@ took rest text line others is cut = ap (λ r. lines_left (option_copied r)) is �
 pub few : (bytes : List ℕ) → count_by is_line_feed bytes < 4294967295 → length (lines_of bytes) < 4294967296
 few bytes le = let parts : length (lines_of bytes) ≡ count_by is_line_feed bytes + 1 = length-slice_split is_line_feed bytes in omega (arith, parts, le)
 
--- the place behind a line
-pub further : (behind : Option (Bor (List ℕ))) (start line text all : ℕ) → MatchOption behind (line ≡ text) (λ b. line + 1 + length b.now ≡ text) → start + text ≡ all → IfSome behind (λ b. start + (line + 1) + length b.now ≡ all)
+-- the place after a line
+pub further : (after : Option (Bor (List ℕ))) (start line text all : ℕ) → MatchOption after (line ≡ text) (λ b. line + 1 + length b.now ≡ text) → start + text ≡ all → IfSome after (λ b. start + (line + 1) + length b.now ≡ all)
 further None start line text all h e = tt
 further (Some b) start line text all h e = omega (arith, h, e)
 

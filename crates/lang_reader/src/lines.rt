@@ -136,11 +136,11 @@ fn take_lines(alloc: Global, reader: &mut Reader, bytes: &[u8]) -> Result<u32, R
     let mut start = 0;
     let mut rest = Some(bytes);
     'lines: while let Some(text) = rest {
-        let (line, behind) = first_line(text);
+        let (line, after) = first_line(text);
         number += 1;
         reader.numbered_line(alloc, number, start, line)?;
         start += line.len() + 1;
-        rest = behind;
+        rest = after;
     }
     Ok(number)
 }

@@ -14,8 +14,8 @@ use memchr::memchr;
 pub(crate) fn first_line(text: &[u8]) -> (&[u8], Option<&[u8]>)
     ensures one_line { IsOneLine result.0.now }
     ensures lines { lines_of text.now ≡ result.0.now ∷ lines_left (option_copied result.1) }
-    ensures behind { MatchOption result.1 (length result.0.now ≡
-        length text.now) (λ behind. length result.0.now + 1 + length behind.now ≡ length text.now) }
+    ensures rest { MatchOption result.1 (length result.0.now ≡
+        length text.now) (λ rest. length result.0.now + 1 + length rest.now ≡ length text.now) }
 {
     match memchr(b'\n', text) {
         Some(place) => (&text[..place], Some(&text[place + 1..])),

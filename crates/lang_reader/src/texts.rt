@@ -73,21 +73,21 @@ fn which_text(which: Which) -> &'static [u8]
 }
 
 // Adds words, a name, and words.
-fn push_named(out: &mut Vec<u8>, front: &[u8], name: &Name, behind: &[u8]) -> Result<(), AllocError>
+fn push_named(out: &mut Vec<u8>, front: &[u8], name: &Name, rest: &[u8]) -> Result<(), AllocError>
     ensures { OnOk result (out.new.items ≡
-        out.old.items ++ (front.now ++ (name.now.items ++ behind.now))) }
+        out.old.items ++ (front.now ++ (name.now.items ++ rest.now))) }
 {
     out.extend_from_slice(front)?;
     out.extend_from_slice(name.as_slice())?;
-    out.extend_from_slice(behind)
+    out.extend_from_slice(rest)
 }
 
 // Adds words and other words.
-fn push_both(out: &mut Vec<u8>, front: &[u8], behind: &[u8]) -> Result<(), AllocError>
-    ensures { OnOk result (out.new.items ≡ out.old.items ++ (front.now ++ behind.now)) }
+fn push_both(out: &mut Vec<u8>, front: &[u8], rest: &[u8]) -> Result<(), AllocError>
+    ensures { OnOk result (out.new.items ≡ out.old.items ++ (front.now ++ rest.now)) }
 {
     out.extend_from_slice(front)?;
-    out.extend_from_slice(behind)
+    out.extend_from_slice(rest)
 }
 
 // Adds words and a place.

@@ -23,7 +23,7 @@ finishes_more step start now next us n m f (x ∷ xs) zero lt e b h =
     h x refl ∙ ap (λ (a : _). step a (finish_words us m (f x))) b ∙ ap (λ (k : ℕ). step start (finish_words us k (f x))) z
 finishes_more step start now next us n m f (x ∷ xs) (suc i) lt e b h = finishes_more step (step start (finish_words us n (f x))) now next us (n + 1) m f xs i (omega arith) (omega arith) b h
 
--- the parts of the result text, one behind the other
+-- the parts of the result text, one after the other
 pub told_text : (s : SessionData) (r : ResultTold) (title finished stopped held whole : Written)
     → title ≡ with_line blank (name (codes "youtopia") ∷ name (codes "result") ∷ number (pos 1) ∷ [])
     → finished ≡ with_lines (λ words. words) title (finish_lines s.updates 1 r.finishes)

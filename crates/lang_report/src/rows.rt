@@ -6,7 +6,8 @@ pub fn worked_results()
     ensures one_repair { TellsOf 100 one_repair_session told_of_one_repair }
     ensures refused_null { TellsOf 100 refused_null_session told_of_refused_null }
     ensures stuck_missing { TellsOf 100 stuck_missing_session told_of_stuck_missing }
-    ensures negative_frontier_misfit { TellsOf 100 negative_frontier_misfit_session told_of_negative_frontier_misfit }
+    ensures negative_frontier_misfit { TellsOf 100 negative_frontier_misfit_session
+        told_of_negative_frontier_misfit }
     ensures added_mapping { TellsOf 100 adds_a_mapping told_of_added_mapping }
     ensures added_mapping_spent { TellsOf 2 adds_a_mapping told_of_added_mapping_spent }
 {}

@@ -107,8 +107,8 @@ fn saved_mappings(
 }
 
 // Turns the session into the saved one, of any size. If it is refused, the session is unchanged.
-fn begin_anew(alloc: Global, session: &mut Session, told: &SessionResult) -> Result<(), Memory>
-    ensures anew { OnOk result (session_of session.new ≡
+fn begin_again(alloc: Global, session: &mut Session, told: &SessionResult) -> Result<(), Memory>
+    ensures same { OnOk result (session_of session.new ≡
         saved (session_of session.old) (result_of told.now)) }
     ensures err { OnErr result (session_of session.new ≡ session_of session.old) }
 {
@@ -158,7 +158,7 @@ pub fn saved(
     ensures refused { IfErr result (λ refusal.
         Refuses refusal (saved (session_of session) (result_of told.now))) }
 {
-    begin_anew(alloc, &mut session, told)?;
+    begin_again(alloc, &mut session, told)?;
     match too_large(alloc, &session)? {
         Some(refusal) => Err(refusal),
         None => Ok(session),

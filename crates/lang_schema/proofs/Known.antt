@@ -28,9 +28,9 @@ no_place p xs e = by (nat_lt (position_or_len p xs) (length xs)) refl where
       no_some n f = cc
   by false t = grind (arith, nat_tests)
 
--- where there is none, the place is behind the last
-pub behind_last : {A : Type 0} (p : A → Bool) (xs : List A) → None ≡ position p xs → position_or_len p xs ≡ length xs
-behind_last p xs e = omega (arith, no_place p xs e, prefix_len-le-length (λ x. not (p x)) xs)
+-- where there is none, the place is after the last
+pub after_last : {A : Type 0} (p : A → Bool) (xs : List A) → None ≡ position p xs → position_or_len p xs ≡ length xs
+after_last p xs e = omega (arith, no_place p xs e, prefix_len-le-length (λ x. not (p x)) xs)
 
 past : {A : Type 0} (xs : List A) (i : ℕ) → length xs ≤ i → slice_get xs i ≡ None
 past [] i le = refl
@@ -41,8 +41,8 @@ past (x ∷ xs) (suc i) le = past xs i (omega arith)
 pub unknown_name : (rs : List RelationSchema) (n : Name) (columns : ℕ) → None ≡ position (same_name n) (relation_names rs) → relation_of rs n columns ≡ Err (UnknownRelation n)
 unfolding relation_of
 unknown_name rs n columns e =
-    let behind : length rs ≤ place_of (relation_names rs) n = omega (arith, no_place (same_name n) (relation_names rs) e, length-map rs (λ (r : RelationSchema). r.name)) in
-    rw (past rs (place_of (relation_names rs) n) behind) refl
+    let beyond : length rs ≤ place_of (relation_names rs) n = omega (arith, no_place (same_name n) (relation_names rs) e, length-map rs (λ (r : RelationSchema). r.name)) in
+    rw (past rs (place_of (relation_names rs) n) beyond) refl
 
 -- no relation has the number
 pub unknown_number : (rs : List RelationSchema) (n : Name) (columns i : ℕ) → Some i ≡ position (same_name n) (relation_names rs) → None ≡ option_map (λ (r : RelationSchema). r.arity) (slice_get rs i) → relation_of rs n columns ≡ Err (UnknownRelation n)

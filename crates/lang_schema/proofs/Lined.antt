@@ -8,7 +8,7 @@ use Rattle.def_language.specs.Grammar.{separated}
 use Rattle.def_language.specs.Layout.{gap, is_open, is_tight, laid_out, spelled}
 use Rattle.lang_schema.specs.Pages.{Written, blank, space, with_word, with_words}
 
--- items with commas between: the first, and each other behind a comma
+-- items with commas between: the first, and each other after a comma
 pub separated_is : {A : Type 0} (words : A → List Word) (x : A) (xs : List A) → separated words (x ∷ xs) ≡ words x ++ flat_map (λ y. comma ∷ words y) xs
 separated_is words x [] = sym (append-nil (words x))
 separated_is words x (y ∷ xs) = ap (λ (ws : List Word). words x ++ comma ∷ ws) (separated_is words y xs)
@@ -29,9 +29,9 @@ gap_is w v = by (is_open w) (is_tight v) where
   by false true = refl
   by false false = refl
 
-behind_gap : (w v : Word) (words : List Word) → onto false (v ∷ words) ≡ laid_out (v ∷ words) → onto (not (is_open w)) (v ∷ words) ≡ gap w v ++ laid_out (v ∷ words)
+after_gap : (w v : Word) (words : List Word) → onto false (v ∷ words) ≡ laid_out (v ∷ words) → onto (not (is_open w)) (v ∷ words) ≡ gap w v ++ laid_out (v ∷ words)
 unfolding laid_out
-behind_gap w v words e =
+after_gap w v words e =
     append_assoc (space (not (is_open w) && not (is_tight v))) (spelled v) (onto (not (is_open v)) words)
     ∙ ap (λ (g : List ℕ). g ++ (spelled v ++ onto (not (is_open v)) words)) (gap_is w v)
     ∙ ap (λ (t : List ℕ). gap w v ++ t) e
@@ -40,7 +40,7 @@ from_start : (words : List Word) → onto false words ≡ laid_out words
 unfolding laid_out
 from_start [] = refl
 from_start (w ∷ []) = append-nil (spelled w)
-from_start (w ∷ v ∷ words) = ap (λ (t : List ℕ). spelled w ++ t) (behind_gap w v words (from_start (v ∷ words)))
+from_start (w ∷ v ∷ words) = ap (λ (t : List ℕ). spelled w ++ t) (after_gap w v words (from_start (v ∷ words)))
 
 -- at the start of a line
 pub line_text : (page : Written) (words : List Word) → page.apart ≡ false → (with_words page words).text ≡ page.text ++ laid_out words
@@ -51,13 +51,13 @@ pub page_text : (words : List Word) → (with_words blank words).text ≡ laid_o
 page_text words = line_text blank words refl
 
 -- the first item, and then the others
-pub after_first : {A : Type 0} (words : A → List Word) (page behind : Written) (x : A) (xs : List A) → behind ≡ with_words page (words x)
-    → with_words behind (flat_map (λ y. comma ∷ words y) xs) ≡ with_words page (separated words (x ∷ xs))
-after_first words page behind x xs e =
+pub after_first : {A : Type 0} (words : A → List Word) (page after : Written) (x : A) (xs : List A) → after ≡ with_words page (words x)
+    → with_words after (flat_map (λ y. comma ∷ words y) xs) ≡ with_words page (separated words (x ∷ xs))
+after_first words page after x xs e =
     ap (λ (p : Written). with_words p (flat_map (λ y. comma ∷ words y) xs)) e
     ∙ sym (ap (with_words page) (separated_is words x xs) ∙ fold-append with_word page (words x) (flat_map (λ y. comma ∷ words y) xs))
 
 -- two sides, with the arrow between
-pub both_sides : (page left behind : Written) (ls rs : List Word) → left ≡ with_words page ls → behind ≡ with_word left arrow → with_words behind rs ≡ with_words page (ls ++ arrow ∷ rs)
-both_sides page left behind ls rs e f =
+pub both_sides : (page left after : Written) (ls rs : List Word) → left ≡ with_words page ls → after ≡ with_word left arrow → with_words after rs ≡ with_words page (ls ++ arrow ∷ rs)
+both_sides page left after ls rs e f =
     ap (λ (p : Written). with_words p rs) (f ∙ ap (λ (p : Written). with_word p arrow) e) ∙ sym (fold-append with_word page ls (arrow ∷ rs))

@@ -15,39 +15,39 @@ use Rattle.lang_schema.proofs.Lined.{separated_is}
 abbrev page_of : List ℕ → Bool → Written
 page_of t b = record { text = t; apart = b }
 
--- a value behind a word
-behind_word : (t : List ℕ) (d : Datum) → with_word (page_of t true) (value_word d) ≡ page_of (t ++ 32 ∷ value_text false d) true
-behind_word t (Number z) = refl
-behind_word t (Text bs) = refl
-behind_word t (Unknown n) = refl
+-- a value after a word
+after_word : (t : List ℕ) (d : Datum) → with_word (page_of t true) (value_word d) ≡ page_of (t ++ 32 ∷ value_text false d) true
+after_word t (Number z) = refl
+after_word t (Text bs) = refl
+after_word t (Unknown n) = refl
 
--- a value behind `(`
-behind_open : (t : List ℕ) (d : Datum) → with_word (page_of t false) (value_word d) ≡ page_of (t ++ value_text false d) true
-behind_open t (Number z) = refl
-behind_open t (Text bs) = refl
-behind_open t (Unknown n) = refl
+-- a value after `(`
+after_open : (t : List ℕ) (d : Datum) → with_word (page_of t false) (value_word d) ≡ page_of (t ++ value_text false d) true
+after_open t (Number z) = refl
+after_open t (Text bs) = refl
+after_open t (Unknown n) = refl
 
 abbrev others_text : List Datum → List ℕ
 others_text ds = flat_map (λ d. 44 ∷ 32 ∷ value_text false d) ds
 
--- values, each behind a comma
+-- values, each after a comma
 others_added : (t : List ℕ) (ds : List Datum)
     → with_words (page_of t true) (flat_map (λ d. comma ∷ one_word value_word d) ds) ≡ page_of (t ++ others_text ds) true
 others_added t [] = ap (λ (u : List ℕ). page_of u true) (sym (append-nil t))
 others_added t (d ∷ ds) =
-    ap (λ (p : Written). with_words p (flat_map (λ e. comma ∷ one_word value_word e) ds)) (behind_word (t ++ 44 ∷ []) d)
+    ap (λ (p : Written). with_words p (flat_map (λ e. comma ∷ one_word value_word e) ds)) (after_word (t ++ 44 ∷ []) d)
     ∙ others_added ((t ++ 44 ∷ []) ++ 32 ∷ value_text false d) ds
     ∙ ap (λ (u : List ℕ). page_of u true)
     (append_assoc (t ++ 44 ∷ []) (32 ∷ value_text false d) (others_text ds) ∙ append_assoc t (44 ∷ []) (32 ∷ (value_text false d ++ others_text ds)))
 
--- all values and `)`, behind `(`
+-- all values and `)`, after `(`
 values_added : (t : List ℕ) (ds : List Datum)
     → with_word (with_words (page_of t false) (separated (one_word value_word) ds)) closes ≡ page_of (t ++ (joined_text (value_text false) ds ++ 41 ∷ [])) true
 values_added t [] = refl
 values_added t (d ∷ ds) =
     ap (λ (p : Written). with_word p closes) (
     ap (with_words (page_of t false)) (separated_is (one_word value_word) d ds)
-    ∙ ap (λ (p : Written). with_words p (flat_map (λ e. comma ∷ one_word value_word e) ds)) (behind_open t d)
+    ∙ ap (λ (p : Written). with_words p (flat_map (λ e. comma ∷ one_word value_word e) ds)) (after_open t d)
     ∙ others_added (t ++ value_text false d) ds
     )
     ∙ ap (λ (u : List ℕ). page_of u true) (
@@ -77,9 +77,9 @@ tuple_added page w =
     )
 
 -- What is added to the text of a page as a tuple is its words.
-pub tuple_behind : (page : Written) (w : WrittenFact) (t : List ℕ) (b : Bool) (spaced u : List ℕ) → page_of t b ≡ page → spaced ≡ t ++ space b
+pub tuple_after : (page : Written) (w : WrittenFact) (t : List ℕ) (b : Bool) (spaced u : List ℕ) → page_of t b ≡ page → spaced ≡ t ++ space b
     → u ≡ spaced ++ (w.relation ++ (40 ∷ (joined_text (value_text false) w.values ++ 41 ∷ []))) → page_of u true ≡ with_words page (fact_words w)
-tuple_behind page w t b spaced u is e f =
+tuple_after page w t b spaced u is e f =
     ap (λ (v : List ℕ). page_of v true) (f ∙ ap (λ (v : List ℕ). v ++ (w.relation ++ (40 ∷ (joined_text (value_text false) w.values ++ 41 ∷ [])))) e)
     ∙ tuple_added (page_of t b) w
     ∙ ap (λ (p : Written). with_words p (fact_words w)) is

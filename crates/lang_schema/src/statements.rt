@@ -138,8 +138,8 @@ fn with_sides(
         (map (written_atom schema.now (map (λ n. n.items) names.now))
         (map pattern_of right.now)))) }
 {
-    let behind = with_atoms(page, schema, names, left)?.arrow()?;
-    with_atoms(behind, schema, names, right)
+    let half = with_atoms(page, schema, names, left)?.arrow()?;
+    with_atoms(half, schema, names, right)
 }
 
 /// Adds the words of a mapping, from the word `mapping` on.

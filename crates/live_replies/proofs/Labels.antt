@@ -9,7 +9,7 @@ use Rattle.def_language.specs.Validity.{AreNew, AreNames}
 pub new_name : (names : List Name) (n : Name) → is_one_of names n ≡ false → with_new same_name names n ≡ names ++ n ∷ []
 new_name names n new = rw new refl
 
--- behind other names
+-- after other names
 distinct_from : (before names : List Name) → AreNew before names → fold (with_new same_name) before names ≡ before ++ names
 distinct_from before [] new = sym (append-nil before)
 distinct_from before (n ∷ names) new =

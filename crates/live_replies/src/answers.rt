@@ -57,7 +57,7 @@ impl<'s> Conversation<'s> {
             (live_of self.new)) }
     {
         match self.core.answer(alloc, update, choice) {
-            Ok(_) => self.told(alloc),
+            Ok(_) => self.latest_line(alloc),
             Err((AnswerRefusal::NoSuchUpdate, _)) => refused(alloc, Refusal::Label),
             Err((AnswerRefusal::NotPaused(standing), _)) => {
                 refused(alloc, Refusal::Stands(standing))
@@ -84,7 +84,7 @@ impl<'s> Conversation<'s> {
             (live_of self.new)) }
     {
         match self.core.withdraw(alloc, update) {
-            Ok(_) => self.told(alloc),
+            Ok(_) => self.latest_line(alloc),
             Err(WithdrawRefusal::NoSuchUpdate) => refused(alloc, Refusal::Label),
             Err(WithdrawRefusal::Committed(_)) => refused(alloc, Refusal::Committed),
             Err(WithdrawRefusal::Withdrawn) => refused(alloc, Refusal::Stands(Standing::Withdrawn)),

@@ -148,7 +148,7 @@ impl<'s> Conversation<'s> {
             text.items (live_of self.new)) }
     {
         match self.core.step(alloc, update) {
-            Ok(_) => self.told(alloc),
+            Ok(_) => self.latest_line(alloc),
             Err(_) => Err(Memory),
         }
     }
@@ -171,7 +171,7 @@ impl<'s> Conversation<'s> {
             text.items (live_of self.new)) }
     {
         match self.core.deliver(update) {
-            Ok(_) => self.told(alloc),
+            Ok(_) => self.latest_line(alloc),
             Err(_) => Err(Memory),
         }
     }
@@ -211,8 +211,8 @@ impl<'s> Conversation<'s> {
 
     /// The line of the last event.
     #[tactic(auto, using(crate::proofs::Listing::last_told))]
-    pub(crate) fn told(&self, alloc: Global) -> Result<Vec<u8>, Memory>
-        ensures told { IfOk result (λ text. text.items ≡
+    pub(crate) fn latest_line(&self, alloc: Global) -> Result<Vec<u8>, Memory>
+        ensures line { IfOk result (λ text. text.items ≡
             last_line self.now.session.now.schema self.now.core.history) }
     {
         match self.core.history().last() {

@@ -26,7 +26,7 @@ pub(crate) fn withdrawal_at(alloc: Global, rest: Words<'_>) -> Result<Said, Memo
         labelled (name_at (words_of rest.entry)) AskWithdrawal) }
 {
     match name_at(alloc, rest) {
-        Ok((label, behind)) => Ok(alone(behind, Command::Withdraw(label))),
+        Ok((label, after)) => Ok(alone(after, Command::Withdraw(label))),
         Err(FormRefusal::Memory) => Err(Memory),
         Err(_) => Ok(Said::NoForm),
     }
@@ -38,7 +38,7 @@ pub(crate) fn question_at(alloc: Global, rest: Words<'_>) -> Result<Said, Memory
         labelled (name_at (words_of rest.entry)) AskQuestion) }
 {
     match name_at(alloc, rest) {
-        Ok((label, behind)) => Ok(alone(behind, Command::Question(label))),
+        Ok((label, after)) => Ok(alone(after, Command::Question(label))),
         Err(FormRefusal::Memory) => Err(Memory),
         Err(_) => Ok(Said::NoForm),
     }

@@ -72,7 +72,7 @@ impl<'s> Conversation<'s> {
         match self.core.admit(alloc, update) {
             Ok(_) => {
                 self.labels.note(label.into_vec())?;
-                self.told(alloc)
+                self.latest_line(alloc)
             }
             Err((AdmitRefusal::Full, _)) => refused(alloc, Refusal::Full),
             Err((AdmitRefusal::Unfit, _)) => refused(alloc, Refusal::Null),

@@ -35,8 +35,8 @@ ask_at words = do
   called ← name_at words
   inside ← open_at called.1
   head ← head_at inside
-  behind ← colon_at head.1
-  body ← right_at behind
+  rest ← colon_at head.1
+  body ← right_at rest
   Ok (record { head = head.0; body = body })
 
 -- from 1 to 8

@@ -39,12 +39,12 @@ fn head_at(alloc: Global, words: Words<'_>) -> Result<(NameList, Words<'_>), For
     let mut found = List::new(alloc);
     let mut rest = words;
     'items: loop {
-        let (item, more, behind) = head_name(alloc, rest)?;
+        let (item, more, after) = head_name(alloc, rest)?;
         found.push(item)?;
         if !more {
-            return Ok((found, behind));
+            return Ok((found, after));
         }
-        rest = behind;
+        rest = after;
     }
 }
 
@@ -56,8 +56,8 @@ fn ask_at(alloc: Global, words: Words<'_>) -> Result<RawAsk, FormRefusal>
     let (_called, rest) = name_at(alloc, words)?;
     let inside = open_at(rest)?;
     let (head, rest) = head_at(alloc, inside)?;
-    let behind = colon_at(rest)?;
-    let body = right_at(alloc, behind)?;
+    let after = colon_at(rest)?;
+    let body = right_at(alloc, after)?;
     Ok(RawAsk { head, body })
 }
 

@@ -6,7 +6,7 @@ use Rattle.lang_session.specs.Meanings.{update_of}
 use Rattle.lang_session.specs.declared.sessions.SessionUpdate.{SessionUpdate}
 use Rattle.run_drill.specs.Drilled.{after_update, update_at, updates_from}
 
--- Behind those so far comes the next one.
+-- After those so far comes the next one.
 moved : (us : List said.SessionUpdate) (b k x : ℕ) → us ++ updates_from (b + 1) (suc k) x ≡ (us ++ update_at (b + 1) x ∷ []) ++ updates_from (b + 1 + 1) k (after_update x)
 moved us b k x = sym (append_assoc us (update_at (b + 1) x ∷ []) (updates_from (b + 1 + 1) k (after_update x)))
 

@@ -20,9 +20,9 @@ header_begins s = refl
 pub no_header : (payload : List ℕ) → begins_header payload ≡ false → (s : SessionData) → payload ≡ printed s → ⊥
 no_header payload other s e = both_ways (begins_header payload) other (ap begins_header e ∙ header_begins s)
 
-pub no_writes_behind : (relations : List RelationSchema) (n : ℕ) (payload head text : List ℕ) → payload ≡ head ++ text → head ≡ commit_line n → ((ws : List Change) → AllByRecursion (IsWrite relations) ws → text ≡ write_lines relations ws → ⊥)
+pub no_writes_after : (relations : List RelationSchema) (n : ℕ) (payload head text : List ℕ) → payload ≡ head ++ text → head ≡ commit_line n → ((ws : List Change) → AllByRecursion (IsWrite relations) ws → text ≡ write_lines relations ws → ⊥)
     → (ws : List Change) → AllByRecursion (IsWrite relations) ws → payload ≡ commit_text relations n ws → ⊥
-no_writes_behind relations n payload head text split first never ws good e =
+no_writes_after relations n payload head text split first never ws good e =
     never ws good (append_cancel_left head text (write_lines relations ws) (sym split ∙ e ∙ ap (λ xs. xs ++ write_lines relations ws) (sym first)))
 
 pub no_commit_there : (relations : List RelationSchema) (n : ℕ) (bytes payload rest : List ℕ) → bytes ≡ framed payload ++ rest → length payload < 2 ^ 32

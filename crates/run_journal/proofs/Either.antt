@@ -28,9 +28,9 @@ use Rattle.base_roll.proofs.Gates.{decided}
 use Rattle.run_journal.specs.Format.{commit_line, commit_text, front, write_lines, write_text, IsCommit, IsOpening, IsWrite}
 use Rattle.run_journal.specs.Journals.{BeginsWith, IsWhole, gate_of}
 use Rattle.run_journal.specs.Damage.{HasNoCommit, IsDamaged}
-use Rattle.run_journal.proofs.Absent.{no_commit_there, no_opening_there, no_writes_behind}
+use Rattle.run_journal.proofs.Absent.{no_commit_there, no_opening_there, no_writes_after}
 use Rattle.run_journal.proofs.Texts.{begins_more}
-use Rattle.run_journal.proofs.WriteLines.{AreReadAgain, NoFeeds, left_lines, first_write, no_line_left, no_tuple_behind, no_write_next, one_write}
+use Rattle.run_journal.proofs.WriteLines.{AreReadAgain, NoFeeds, left_lines, first_write, no_line_left, no_tuple_after, no_write_next, one_write}
 
 same_or_not : (xs ys : List ℕ) → (xs ≡ ys) ⊎ (xs ≡ ys → ⊥)
 same_or_not xs ys = by (bytes_eq xs ys) refl where
@@ -169,7 +169,7 @@ module _ (relations : List RelationSchema) (again : AreReadAgain relations)
     other plus minus (Delete t) good e = both_ways (sign == 45) minus (eq-eqb sign 45 (first_same sign 45 text (tuple_text relations false t) e))
 
     by : IsTupleText text ⊎ IsNoTuple text → (sign ≡ 43) ⊎ ((sign == 43) ≡ false) → (sign ≡ 45) ⊎ ((sign == 45) ≡ false) → IsWriteText (sign ∷ text) ⊎ IsNoWrite (sign ∷ text)
-    by (inr none) plus minus = inr (no_tuple_behind relations sign text none)
+    by (inr none) plus minus = inr (no_tuple_after relations sign text none)
     by (inl (t, fits, is)) (inl plus) minus = inl (Insert t, fits, (λ i. plus i ∷ is i))
     by (inl (t, fits, is)) (inr plus) (inl minus) = inl (Delete t, fits, (λ i. minus i ∷ is i))
     by (inl (t, fits, is)) (inr plus) (inr minus) = inr (other plus minus)
@@ -215,7 +215,7 @@ module _ (relations : List RelationSchema) (again : AreReadAgain relations)
     commit_in : (n < 2 ^ 32) ⊎ (2 ^ 32 ≤ n) → (payload ≡ commit_line n ++ text) ⊎ (payload ≡ commit_line n ++ text → ⊥) → AreWriteLines text ⊎ AreNoWrites text → HasCommit n bytes ⊎ HasNoCommit relations n bytes
     commit_in (inr large) head lines = inr (λ writes more one e. let few : n < 2 ^ 32 = one.number in omega arith)
     commit_in (inl few) (inr other) lines = inr (no_commit_there relations n bytes payload rest is small (λ writes good e. other (e ∙ ap (λ xs. commit_line n ++ xs) (sym (text_of writes e)))))
-    commit_in (inl few) (inl head) (inr none) = inr (no_commit_there relations n bytes payload rest is small (no_writes_behind relations n payload (commit_line n) text head refl none))
+    commit_in (inl few) (inl head) (inr none) = inr (no_commit_there relations n bytes payload rest is small (no_writes_after relations n payload (commit_line n) text head refl none))
     commit_in (inl few) (inl head) (inl (writes, good, e)) =
         let whole : payload ≡ commit_text relations n writes = head ∙ ap (λ xs. commit_line n ++ xs) e in
         inl (writes, rest, record { number = few; writes = good; short = subst (λ xs. length xs < 2 ^ 32) whole small }, is ∙ ap (λ xs. framed xs ++ rest) whole)
@@ -224,8 +224,8 @@ module _ (relations : List RelationSchema) (again : AreReadAgain relations)
   commit_or_none n bytes = by (frame_or_none bytes) where
     by : HasFrame bytes ⊎ HasNoRecord bytes → HasCommit n bytes ⊎ HasNoCommit relations n bytes
     by (inl (payload, rest, small, is)) =
-        let behind = text n bytes payload rest small is in
-        commit_in n bytes payload rest small is (cases_lt n (2 ^ 32)) (same_or_not payload (commit_line n ++ behind)) (writes_or_none (length behind) behind (omega arith))
+        let tail = text n bytes payload rest small is in
+        commit_in n bytes payload rest small is (cases_lt n (2 ^ 32)) (same_or_not payload (commit_line n ++ tail)) (writes_or_none (length tail) tail (omega arith))
     by (inr none) = inr (λ writes rest one e. none (commit_text relations n writes) rest one.short e)
 
 -- ---- commits
@@ -234,22 +234,22 @@ module _ (bytes : List ℕ) (s : SessionData) (again : AreReadAgain s.relations)
     (says : (line : List ℕ) (fact : WrittenFact) (t : Fact) → IsUtf8 line → lone_fact line ≡ Ok fact → fact_of s.relations fact ≡ Ok t → IsTuple s.relations t) where
   commits_or_damage : (most : ℕ) (commits : List (List Change)) (rest : List ℕ) → length rest ≤ most → BeginsWith bytes s commits rest → IsWhole bytes ⊎ IsDamaged bytes
   commits_or_damage most commits [] few b = inr (gate_of s commits, inr (record { session = s; commits = commits; rest = []; begins = b; place = refl; broken = inl refl }))
-  commits_or_damage zero commits (gate ∷ behind) few b = absurd (omega arith)
-  commits_or_damage (suc most) commits (gate ∷ behind) few b = by (commits_or_damage most) (decided gate) where
+  commits_or_damage zero commits (gate ∷ tail) few b = absurd (omega arith)
+  commits_or_damage (suc most) commits (gate ∷ tail) few b = by (commits_or_damage most) (decided gate) where
     next : ((more : List (List Change)) (left : List ℕ) → length left ≤ most → BeginsWith bytes s more left → IsWhole bytes ⊎ IsDamaged bytes)
-        → gate ≡ 1 → HasCommit s.relations again says (length commits + 1) behind ⊎ HasNoCommit s.relations (length commits + 1) behind → IsWhole bytes ⊎ IsDamaged bytes
+        → gate ≡ 1 → HasCommit s.relations again says (length commits + 1) tail ⊎ HasNoCommit s.relations (length commits + 1) tail → IsWhole bytes ⊎ IsDamaged bytes
     next shorter open_ (inr none) =
-        inr (gate_of s commits, inr (record { session = s; commits = commits; rest = gate ∷ behind; begins = b; place = refl; broken = inr (behind, ap (λ x. x ∷ behind) open_, none) }))
+        inr (gate_of s commits, inr (record { session = s; commits = commits; rest = gate ∷ tail; begins = b; place = refl; broken = inr (tail, ap (λ x. x ∷ tail) open_, none) }))
     next shorter open_ (inl (writes, more, one, e)) =
-        let is : gate ∷ behind ≡ opened (commit_text s.relations (length commits + 1) writes) ++ more = λ i. open_ i ∷ e i in
+        let is : gate ∷ tail ≡ opened (commit_text s.relations (length commits + 1) writes) ++ more = λ i. open_ i ∷ e i in
         shorter (commits ++ writes ∷ []) more
         (omega (arith, few, ap length e, length-append (framed (commit_text s.relations (length commits + 1) writes)) more, length_framed (commit_text s.relations (length commits + 1) writes)))
         (begins_more s (length commits + 1) commits writes refl bytes more one (record { opening = b.opening; commits = b.commits; bytes = b.bytes ∙ ap (λ xs. front s commits ++ xs) is }))
 
     by : ((more : List (List Change)) (left : List ℕ) → length left ≤ most → BeginsWith bytes s more left → IsWhole bytes ⊎ IsDamaged bytes)
         → (gate ≡ 1) ⊎ (gate ≡ 1 → ⊥) → IsWhole bytes ⊎ IsDamaged bytes
-    by shorter (inl open_) = next shorter open_ (commit_or_none s.relations again says (length commits + 1) behind)
-    by shorter (inr closed) = inl (s, commits, (gate ∷ behind, b, (gate, behind, refl, closed)))
+    by shorter (inl open_) = next shorter open_ (commit_or_none s.relations again says (length commits + 1) tail)
+    by shorter (inr closed) = inl (s, commits, (gate ∷ tail, b, (gate, tail, refl, closed)))
 
 pub journal_or_damage : ((bytes : List ℕ) → ((s : SessionData) × Spells bytes s) ⊎ ((wrong : Wrong) × IsFirstFault bytes wrong)) → ((bytes : List ℕ) (s t : SessionData) → Spells bytes s → Spells bytes t → s ≡ t)
     → ((bytes : List ℕ) (s : SessionData) (wrong : Wrong) → Spells bytes s → IsFirstFault bytes wrong → ⊥) → ((s : SessionData) → IsSession s → Spells (printed s) s)

@@ -55,7 +55,7 @@ one_list s again commits others bytes j k =
 -- ---- damaged bytes
 
 none_left : (x y : List ℕ) → IsClosed y → x ≡ y → x ≡ [] → ⊥
-none_left x y (gate, behind, is, off) e f = let never : gate ∷ behind ≡ [] = sym is ∙ sym e ∙ f in cc
+none_left x y (gate, tail, is, off) e f = let never : gate ∷ tail ≡ [] = sym is ∙ sym e ∙ f in cc
 
 some_left : (byte : ℕ) (more x : List ℕ) → x ≡ byte ∷ more → x ≡ [] → ⊥
 some_left byte more x e f = let never : byte ∷ more ≡ [] = sym e ∙ f in cc
@@ -64,12 +64,12 @@ some_left byte more x e f = let never : byte ∷ more ≡ [] = sym e ∙ f in cc
 no_list : (relations : List RelationSchema) → AreReadAgain relations → (n m : ℕ) (commits others : List (List Change)) (x y : List ℕ) → m ≡ n + length commits → AreCommits relations n commits → AreCommits relations n others
     → IsBroken relations m x → IsClosed y → records (texts relations n commits) ++ x ≡ records (texts relations n others) ++ y → ⊥
 no_list relations again n m [] [] x y k a b (inl none) d e = none_left x y d e none
-no_list relations again n m [] [] x y k a b (inr (behind, is, none)) d e = shut y behind d (sym e ∙ is)
+no_list relations again n m [] [] x y k a b (inr (tail, is, none)) d e = shut y tail d (sym e ∙ is)
 no_list relations again n m [] (vs ∷ others) x y k a b (inl none) d e =
     some_left 1 (framed (commit_text relations n vs) ++ (records (texts relations (n + 1) others) ++ y)) x (e ∙ append_assoc (opened (commit_text relations n vs)) (records (texts relations (n + 1) others)) y) none
-no_list relations again n m [] (vs ∷ others) x y k a b (inr (behind, is, none)) d e =
+no_list relations again n m [] (vs ∷ others) x y k a b (inr (tail, is, none)) d e =
     let same : m ≡ n = omega arith in
-    subst (λ i. HasNoCommit relations i behind) same none vs (records (texts relations (n + 1) others) ++ y) b.0
+    subst (λ i. HasNoCommit relations i tail) same none vs (records (texts relations (n + 1) others) ++ y) b.0
     (ap (drop 1) (sym is ∙ e ∙ append_assoc (opened (commit_text relations n vs)) (records (texts relations (n + 1) others)) y))
 no_list relations again n m (ws ∷ commits) [] x y k a b c d e =
     shut y (framed (commit_text relations n ws) ++ (records (texts relations (n + 1) commits) ++ x)) d (sym e ∙ append_assoc (opened (commit_text relations n ws)) (records (texts relations (n + 1) commits)) x)

@@ -21,9 +21,9 @@ after_more : (D : List Fact) (commits : List (List Change)) (writes : List Chang
 after_more D [] writes = refl
 after_more D (c ∷ commits) writes = after_more (apply D c) commits writes
 
-pub read_more : (bytes : List ℕ) (s : SessionData) (count n : ℕ) (rest behind more : List ℕ) (old new : List Fact) → HasRead bytes s count rest old → rest ≡ 1 ∷ behind → n ≡ count + 1 → TakesCommit s.relations n behind more old new
+pub read_more : (bytes : List ℕ) (s : SessionData) (count n : ℕ) (rest tail more : List ℕ) (old new : List Fact) → HasRead bytes s count rest old → rest ≡ 1 ∷ tail → n ≡ count + 1 → TakesCommit s.relations n tail more old new
     → HasRead bytes s n more new
-read_more bytes s count n rest behind more old new h e next t =
+read_more bytes s count n rest tail more old new h e next t =
     let number : n ≡ length h.commits + 1 = next ∙ ap (λ k. k + 1) h.count in
     let there : rest ≡ opened (commit_text s.relations n t.writes) ++ more = e ∙ ap (λ xs. 1 ∷ xs) t.bytes in
     record {
@@ -48,14 +48,14 @@ breaks bytes s count place rest facts h e broken = record {
   broken = broken;
 }
 
--- behind an open gate there is no commit
-pub no_commit_breaks : (bytes : List ℕ) (s : SessionData) (count n place : ℕ) (rest behind : List ℕ) (facts : List Fact) → HasRead bytes s count rest facts → place ≡ length bytes - length rest → rest ≡ 1 ∷ behind → n ≡ count + 1
-    → HasNoCommit s.relations n behind → BreaksAt bytes place
-no_commit_breaks bytes s count n place rest behind facts h e is next none =
-    breaks bytes s count place rest facts h e (inr (behind, is, subst (λ k. HasNoCommit s.relations k behind) (next ∙ ap (λ k. k + 1) h.count) none))
+-- after an open gate there is no commit
+pub no_commit_breaks : (bytes : List ℕ) (s : SessionData) (count n place : ℕ) (rest tail : List ℕ) (facts : List Fact) → HasRead bytes s count rest facts → place ≡ length bytes - length rest → rest ≡ 1 ∷ tail → n ≡ count + 1
+    → HasNoCommit s.relations n tail → BreaksAt bytes place
+no_commit_breaks bytes s count n place rest tail facts h e is next none =
+    breaks bytes s count place rest facts h e (inr (tail, is, subst (λ k. HasNoCommit s.relations k tail) (next ∙ ap (λ k. k + 1) h.count) none))
 
 -- the number of the next commit would not fit
-pub too_many_breaks : (bytes : List ℕ) (s : SessionData) (count place : ℕ) (rest behind : List ℕ) (facts : List Fact) → HasRead bytes s count rest facts → place ≡ length bytes - length rest → rest ≡ 1 ∷ behind → 2 ^ 32 ≤ count + 1
+pub too_many_breaks : (bytes : List ℕ) (s : SessionData) (count place : ℕ) (rest tail : List ℕ) (facts : List Fact) → HasRead bytes s count rest facts → place ≡ length bytes - length rest → rest ≡ 1 ∷ tail → 2 ^ 32 ≤ count + 1
     → BreaksAt bytes place
-too_many_breaks bytes s count place rest behind facts h e is large =
-    no_commit_breaks bytes s count (count + 1) place rest behind facts h e is refl (λ writes more one f. let small : count + 1 < 2 ^ 32 = one.number in omega arith)
+too_many_breaks bytes s count place rest tail facts h e is large =
+    no_commit_breaks bytes s count (count + 1) place rest tail facts h e is refl (λ writes more one f. let small : count + 1 < 2 ^ 32 = one.number in omega arith)

@@ -42,7 +42,7 @@ pub no_feed_within : (l x : List ℕ) → NoFeeds (l ++ (10 ∷ x)) → ⊥
 no_feed_within [] x a = feed_no a.0
 no_feed_within (c ∷ l) x a = no_feed_within l x a.1
 
--- the lines of a write and of those behind it
+-- the lines of a write and of those after it
 pub first_write : (relations : List RelationSchema) (w : Change) (ws : List Change) (rest : List ℕ) → write_lines relations (w ∷ ws) ++ rest ≡ write_text relations w ++ (10 ∷ (write_lines relations ws ++ rest))
 first_write relations w ws rest =
     append_assoc (write_text relations w ++ 10 ∷ []) (write_lines relations ws) rest ∙ append_assoc (write_text relations w) (10 ∷ []) (write_lines relations ws ++ rest)
@@ -54,7 +54,7 @@ no_lines : (relations : List RelationSchema) (l x : List ℕ) → l ++ (10 ∷ x
 no_lines relations [] x e = let f : ⊥ = cc in f
 no_lines relations (c ∷ l) x e = let f : ⊥ = cc in f
 
--- what is left behind some of the lines of writes is lines of writes
+-- what is left after some of the lines of writes is lines of writes
 pub left_lines : (relations : List RelationSchema) → AreReadAgain relations → (done all : List Change) (rest : List ℕ) → AllByRecursion (IsWrite relations) done → AllByRecursion (IsWrite relations) all
     → write_lines relations done ++ rest ≡ write_lines relations all → (left : List Change) × AllByRecursion (IsWrite relations) left × (rest ≡ write_lines relations left)
 left_lines relations again [] all rest a b e = (all, b, e)
@@ -97,10 +97,10 @@ same_writes relations again (w ∷ ws) (v ∷ vs) a b e =
 
 -- ---- what a line that is no write can't be
 
-pub no_tuple_behind : (relations : List RelationSchema) (sign : ℕ) (text : List ℕ) → ((t : Fact) → IsTuple relations t → text ≡ tuple_text relations false t → ⊥)
+pub no_tuple_after : (relations : List RelationSchema) (sign : ℕ) (text : List ℕ) → ((t : Fact) → IsTuple relations t → text ≡ tuple_text relations false t → ⊥)
     → (w : Change) → IsWrite relations w → sign ∷ text ≡ write_text relations w → ⊥
-no_tuple_behind relations sign text none (Insert t) good e = none t good (ap (drop 1) e)
-no_tuple_behind relations sign text none (Delete t) good e = none t good (ap (drop 1) e)
+no_tuple_after relations sign text none (Insert t) good e = none t good (ap (drop 1) e)
+no_tuple_after relations sign text none (Delete t) good e = none t good (ap (drop 1) e)
 
 -- ---- what text that is no lines of writes can't be
 

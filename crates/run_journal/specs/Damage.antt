@@ -18,7 +18,7 @@ HasNoCommit relations n bytes = (writes : List Change) (rest : List ℕ) → IsC
 
 -- the gate is missing, or it is open and commit n does not stand after it
 abbrev pub IsBroken : List RelationSchema → ℕ → List ℕ → Type 0
-IsBroken relations n rest = (rest ≡ []) ⊎ ((behind : List ℕ) × (rest ≡ 1 ∷ behind) × HasNoCommit relations n behind)
+IsBroken relations n rest = (rest ≡ []) ⊎ ((tail : List ℕ) × (rest ≡ 1 ∷ tail) × HasNoCommit relations n tail)
 
 -- the bytes are damaged after whole commits, at the next gate
 pub record BreaksAt (bytes : List ℕ) (gate : ℕ) : Type 0 where

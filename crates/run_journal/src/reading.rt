@@ -46,7 +46,7 @@ fn first_line(text: &[u8]) -> Option<(&[u8], &[u8])>
 }
 
 // The text after its head; None if the text does not begin with the head.
-fn behind<'a>(head: &[u8], text: &'a [u8]) -> Option<&'a [u8]>
+fn after<'a>(head: &[u8], text: &'a [u8]) -> Option<&'a [u8]>
     ensures some { IfSome result (λ rest. text.now ≡ head.now ++ rest.now) }
     ensures none { IfNone result ((rest : List ℕ) → text.now ≡ head.now ++ rest → ⊥) }
 {
@@ -185,7 +185,7 @@ fn read_commit(
         → payload.now ≡ commit_text session.now.schema number ws → ⊥)) }
 {
     let head = commit_line(alloc, number)?;
-    match behind(&head, payload) {
+    match after(&head, payload) {
         Some(text) => read_writes(alloc, session, text),
         None => Ok(None),
     }
@@ -325,7 +325,7 @@ fn read_commits(
     let mut rest = records;
     'records: loop {
         let gate = bytes.len() - rest.len();
-        let [byte, behind @ ..] = rest else {
+        let [byte, tail @ ..] = rest else {
             return Err(RecoverFault::Damaged(gate as u64));
         };
         if *byte != 1 {
@@ -334,7 +334,7 @@ fn read_commits(
         let Some(number) = commits.checked_add(1) else {
             return Err(RecoverFault::Damaged(gate as u64));
         };
-        let Some(more) = take_commit(alloc, session, facts, number, behind)? else {
+        let Some(more) = take_commit(alloc, session, facts, number, tail)? else {
             return Err(RecoverFault::Damaged(gate as u64));
         };
         commits = number;

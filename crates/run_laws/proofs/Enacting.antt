@@ -23,7 +23,7 @@ enactments_below s v =
 
 -- ---- updates one by one
 
--- What an update does behind so many others, which puts in force only a mapping of a small number.
+-- An operation of an update that has a number of others below it, which puts in force only a mapping of a small number.
 abbrev pub Acts : List RelationSchema → ℕ → SessionUpdate → Type 0
 Acts rs below x = IsOperation rs below x.operation × ((n : ℕ) → x.operation ≡ Enacts n → n < 2 ^ 63)
 

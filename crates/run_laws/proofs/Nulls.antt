@@ -21,8 +21,8 @@ pub record Listed (xs : List NullName) (n : NullName) : Type 0 where
 at_head : (x n : NullName) (xs : List NullName) → x ≡ n → Listed (x ∷ xs) n
 at_head x n xs e = record { place = 0; there = ap Some e }
 
-behind : (x n : NullName) (xs : List NullName) → Listed xs n → Listed (x ∷ xs) n
-behind x n xs l = record { place = suc l.place; there = l.there }
+later : (x n : NullName) (xs : List NullName) → Listed xs n → Listed (x ∷ xs) n
+later x n xs l = record { place = suc l.place; there = l.there }
 
 -- ---- in order, each once
 
@@ -36,7 +36,7 @@ insert_has (x ∷ ks) n = by (null_cmp n x) refl (insert_has ks n)
     by : (o : Ordering) → null_cmp n x ≡ o → Listed (insert_key null_cmp ks n) n → Listed (match_ordering o (n ∷ x ∷ ks) (x ∷ ks) (x ∷ insert_key null_cmp ks n)) n
     by Less e rest = at_head n n (x ∷ ks) refl
     by Equal e rest = at_head x n ks (same e)
-    by Greater e rest = behind x n (insert_key null_cmp ks n) rest
+    by Greater e rest = later x n (insert_key null_cmp ks n) rest
 
 insert_keeps : (ks : List NullName) (n m : NullName) (i : ℕ) → slice_get ks i ≡ Some m → Listed (insert_key null_cmp ks n) m
 insert_keeps [] n m i e = absurd (none_some m e)
@@ -44,7 +44,7 @@ insert_keeps (x ∷ ks) n m i e = by (null_cmp n x) (λ j f. insert_keeps ks n m
   where
     front : (j : ℕ) → slice_get (x ∷ ks) j ≡ Some m → ((k : ℕ) → slice_get ks k ≡ Some m → Listed (insert_key null_cmp ks n) m) → Listed (x ∷ insert_key null_cmp ks n) m
     front zero f rest = at_head x m (insert_key null_cmp ks n) (some_same x m f)
-    front (suc j) f rest = behind x m (insert_key null_cmp ks n) (rest j f)
+    front (suc j) f rest = later x m (insert_key null_cmp ks n) (rest j f)
 
     by : (o : Ordering) → ((k : ℕ) → slice_get ks k ≡ Some m → Listed (insert_key null_cmp ks n) m) → Listed (match_ordering o (n ∷ x ∷ ks) (x ∷ ks) (x ∷ insert_key null_cmp ks n)) m
     by Less rest = record { place = suc i; there = e }
@@ -65,11 +65,11 @@ fold_has (n ∷ ns) ks m (suc i) e = fold_has ns (insert_key null_cmp ks n) m i 
 in_front : (xs ys : List NullName) (n : NullName) (i : ℕ) → slice_get xs i ≡ Some n → Listed (xs ++ ys) n
 in_front [] ys n i e = absurd (none_some n e)
 in_front (x ∷ xs) ys n zero e = at_head x n (xs ++ ys) (some_same x n e)
-in_front (x ∷ xs) ys n (suc i) e = behind x n (xs ++ ys) (in_front xs ys n i e)
+in_front (x ∷ xs) ys n (suc i) e = later x n (xs ++ ys) (in_front xs ys n i e)
 
 at_end : (xs ys : List NullName) (n : NullName) → Listed ys n → Listed (xs ++ ys) n
 at_end [] ys n l = l
-at_end (x ∷ xs) ys n l = behind x n (xs ++ ys) (at_end xs ys n l)
+at_end (x ∷ xs) ys n l = later x n (xs ++ ys) (at_end xs ys n l)
 
 in_values : (ds : List Datum) (n : NullName) → list_any (same_datum (Unknown n)) ds ≡ true → Listed (flat_map null_in ds) n
 in_values [] n e = differ e
@@ -82,7 +82,7 @@ in_values (Unknown m ∷ ds) n e = by (same_datum (Unknown n) (Unknown m)) refl 
 
     by : (b : Bool) → same_datum (Unknown n) (Unknown m) ≡ b → (b || list_any (same_datum (Unknown n)) ds) ≡ true → (list_any (same_datum (Unknown n)) ds ≡ true → Listed (flat_map null_in ds) n) → Listed (m ∷ flat_map null_in ds) n
     by true q f rest = at_head m n (flat_map null_in ds) (same q)
-    by false q f rest = behind m n (flat_map null_in ds) (rest f)
+    by false q f rest = later m n (flat_map null_in ds) (rest f)
 
 in_facts : (D : List Fact) (n : NullName) → stands_in D (Unknown n) ≡ true → Listed (flat_map nulls_in D) n
 in_facts [] n e = differ e

@@ -28,7 +28,7 @@ pub filter_twice : (p q : Fact → Bool) (ts : List Fact) → filter p (filter q
 filter_twice p q [] = refl
 filter_twice p q (t ∷ ts) = one_twice p q t ts (q t) (filter_twice p q ts)
 
--- The writes behind the first ones.
+-- The writes after the first ones.
 pub dropped_all : (xs ys : List Change) → drop (length xs) (xs ++ ys) ≡ ys
 dropped_all [] ys = refl
 dropped_all (x ∷ xs) ys = dropped_all xs ys
@@ -43,7 +43,7 @@ mapped zero ws = refl
 mapped (suc n) [] = refl
 mapped (suc n) (w ∷ ws) = mapped n ws
 
--- The writes behind the first n.
+-- The writes after the first n.
 pub latest_all : (n : ℕ) (ws vs : List Write) → vs ≡ ws → map change_of (take (length vs - n) (drop n vs)) ≡ drop n (map change_of ws)
 latest_all n ws vs e =
     ap (λ (us : List Write). map change_of (take (length us - n) (drop n us))) e
@@ -68,10 +68,10 @@ pub changed_by : (ms : List Rule) (B : ℕ) (D : List Fact) (P : Attempt) (c : O
     → s ≡ between (stepped ms B D P c) → all ≡ s.attempt.own → ws ≡ drop (length P.own) all → ds ≡ deleted ws
     → fs ≡ filter (λ t. not (has (apply D P.own) t)) (inserted ws) → ps ≡ filter (has (apply D all)) fs
     → (ds ≡ (note (step_of ms D P c)).deleted) × (ps ≡ (note (step_of ms D P c)).puts)
-changed_by ms B D P c s ws all ds fs ps made own behind dd ff pp =
+changed_by ms B D P c s ws all ds fs ps made own written dd ff pp =
     let m = move_of ms D P c in
     let joined : all ≡ P.own ++ m.writes = own ∙ ap (λ (t : State). t.attempt.own) made in
-    let same : ws ≡ m.writes = behind ∙ (ap (drop (length P.own)) joined ∙ dropped_all P.own m.writes) in (
+    let same : ws ≡ m.writes = written ∙ (ap (drop (length P.own)) joined ∙ dropped_all P.own m.writes) in (
       dd ∙ ap deleted same,
       pp ∙ (ap (filter (has (apply D all))) (ff ∙ ap (λ us. filter (λ t. not (has (apply D P.own) t)) (inserted us)) same) ∙ put_ones (step_of ms D P c) D P.own all refl joined),
     )

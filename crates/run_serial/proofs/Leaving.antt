@@ -27,22 +27,22 @@ use Rattle.lang_session.specs.Laws.{SuitTheChase, BaseHolds}
 use Rattle.lang_session.specs.Meanings.{requests_in}
 use Rattle.chase_update.specs.Results.{StopTold, stop_in}
 use Rattle.run_serial.specs.Rests.{turn_of, whole_rest}
-use Rattle.run_serial.specs.Trails.{TrailsTold, trailed, trailed_from, serial_trailed, behind}
+use Rattle.run_serial.specs.Trails.{TrailsTold, trailed, trailed_from, serial_trailed, after}
 use Rattle.run_serial.proofs.Onward.{ends_there, stops_there}
 
 -- Where the update ends, the run goes on over what it shows.
 pub goes_on : (ms : List Rule) (B : ℕ) (D E : List Fact) (n : ℕ) (r : Request) (rs : List Request) (P : Attempt) (ts us : List (List Change))
     → whole_rest ms B D (turn_of ms B n r) ≡ (P, None) → us ≡ ts ++ shown (caused_chase ms B) P ∷ [] → E ≡ apply D (shown (caused_chase ms B) P)
-    → behind ts (trailed_from ms B D n (r ∷ rs)) ≡ behind us (trailed_from ms B E (n + 1) rs)
+    → after ts (trailed_from ms B D n (r ∷ rs)) ≡ after us (trailed_from ms B E (n + 1) rs)
 unfolding trailed_from
 goes_on ms B D E n r rs P ts us w f k =
-    ap (λ (x : Rest (caused_chase ms B)). behind ts (trailed caused ms B (after_turn (caused_chase ms B) (λ F. serial (caused_chase ms B) F (turns_in caused ms B (suc n) rs)) n D x)))
+    ap (λ (x : Rest (caused_chase ms B)). after ts (trailed caused ms B (after_turn (caused_chase ms B) (λ F. serial (caused_chase ms B) F (turns_in caused ms B (suc n) rs)) n D x)))
     (ends_there ms B _ P w)
     ∙ (ap (λ (vs : List (List Change)). record { trails = vs; stop = (trailed_from ms B (apply D (shown (caused_chase ms B) P)) (suc n) rs).stop })
     (sym (append_assoc ts (shown (caused_chase ms B) P ∷ []) (trailed_from ms B (apply D (shown (caused_chase ms B) P)) (suc n) rs).trails))
-    ∙ (ap (λ (vs : List (List Change)). behind vs (trailed_from ms B (apply D (shown (caused_chase ms B) P)) (suc n) rs)) (sym f)
-    ∙ (ap (λ (F : List Fact). behind us (trailed_from ms B F (suc n) rs)) (sym k)
-    ∙ ap (λ m. behind us (trailed_from ms B E m rs)) (sym (add-one n)))))
+    ∙ (ap (λ (vs : List (List Change)). after vs (trailed_from ms B (apply D (shown (caused_chase ms B) P)) (suc n) rs)) (sym f)
+    ∙ (ap (λ (F : List Fact). after us (trailed_from ms B F (suc n) rs)) (sym k)
+    ∙ ap (λ m. after us (trailed_from ms B E m rs)) (sym (add-one n)))))
 
 -- Where the update stops, the run is over.
 pub stops_here : (ms : List Rule) (B : ℕ) (D : List Fact) (n : ℕ) (r : Request) (rs : List Request) (P : Attempt) (l : Lack) (s : StopTold)
@@ -55,7 +55,7 @@ stops_here ms B D n r rs P l s w e =
     ∙ ap (λ (o : Option StopTold). record { trails = []; stop = o }) e
 
 -- Where no updates are left, the run is over.
-pub ends_here : (ms : List Rule) (B : ℕ) (D : List Fact) (n : ℕ) (ts : List (List Change)) → behind ts (trailed_from ms B D n []) ≡ record { trails = ts; stop = None }
+pub ends_here : (ms : List Rule) (B : ℕ) (D : List Fact) (n : ℕ) (ts : List (List Change)) → after ts (trailed_from ms B D n []) ≡ record { trails = ts; stop = None }
 unfolding trailed_from
 ends_here ms B D n ts = ap (λ (vs : List (List Change)). record { trails = vs; stop = None }) (append-nil ts)
 
@@ -63,7 +63,7 @@ ends_here ms B D n ts = ap (λ (vs : List (List Change)). record { trails = vs; 
 
 module _ (ms : List Rule) (B : ℕ) (few : 1 ≤ B) where
   abbrev with_one : List Change → TrailsTold → TrailsTold
-  with_one t r = behind (t ∷ []) r
+  with_one t r = after (t ∷ []) r
 
   abbrev resting : Attempt → Option Lack → Attempt × Option Lack
   resting P l = (P, l)

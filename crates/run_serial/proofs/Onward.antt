@@ -20,7 +20,7 @@ use Rattle.lang_session.specs.Laws.{SuitTheChase, BaseHolds}
 use Rattle.lang_session.specs.Meanings.{requests_in}
 use Rattle.chase_update.specs.Results.{FinishTold, StopTold, finish_in, stop_in, result_in}
 use Rattle.run_serial.specs.Rests.{turn_of, whole_rest}
-use Rattle.run_serial.specs.Runs.{HasFinished, told_from, behind, told_at}
+use Rattle.run_serial.specs.Runs.{HasFinished, told_from, after, told_at}
 
 -- What is at rest with no lack has ended.
 pub ends_there : (ms : List Rule) (B : ℕ) (r : Rest (caused_chase ms B)) (P : Attempt) → at_rest caused ms B r ≡ (P, None) → r ≡ Ends P
@@ -45,7 +45,7 @@ finish_first n P others fs gs f =
 
 -- The finish that is told first may as well stand among those before.
 finish_told : (ms : List Rule) (B n : ℕ) (P : Attempt) (R : Result (caused_chase ms B)) (fs gs : List FinishTold) → HasFinished n P fs gs
-    → behind fs (result_in (told caused ms B (with_finish (caused_chase ms B) n P R))) ≡ behind gs (result_in (told caused ms B R))
+    → after fs (result_in (told caused ms B (with_finish (caused_chase ms B) n P R))) ≡ after gs (result_in (told caused ms B R))
 finish_told ms B n P R fs gs f =
     ap (λ (xs : List FinishTold). record { finishes = xs; stop = (result_in (told caused ms B R)).stop; repository = (result_in (told caused ms B R)).repository })
     (finish_first n P _ fs gs f)
@@ -53,14 +53,14 @@ finish_told ms B n P R fs gs f =
 -- Where the update ends, the run goes on over what it shows.
 pub goes_on : (ms : List Rule) (B : ℕ) (D E : List Fact) (n : ℕ) (r : Request) (rs : List Request) (P : Attempt) (fs gs : List FinishTold)
     → whole_rest ms B D (turn_of ms B n r) ≡ (P, None) → HasFinished n P fs gs → E ≡ apply D (shown (caused_chase ms B) P)
-    → behind fs (told_from ms B D n (r ∷ rs)) ≡ behind gs (told_from ms B E (n + 1) rs)
+    → after fs (told_from ms B D n (r ∷ rs)) ≡ after gs (told_from ms B E (n + 1) rs)
 unfolding told_from
 goes_on ms B D E n r rs P fs gs w f k =
-    ap (λ (x : Rest (caused_chase ms B)). behind fs (result_in (told caused ms B (after_turn (caused_chase ms B) (λ F. serial (caused_chase ms B) F (turns_in caused ms B (suc n) rs)) n D x))))
+    ap (λ (x : Rest (caused_chase ms B)). after fs (result_in (told caused ms B (after_turn (caused_chase ms B) (λ F. serial (caused_chase ms B) F (turns_in caused ms B (suc n) rs)) n D x))))
     (ends_there ms B _ P w)
     ∙ (finish_told ms B n P (serial (caused_chase ms B) (apply D (shown (caused_chase ms B) P)) (turns_in caused ms B (suc n) rs)) fs gs f
-    ∙ (ap (λ (F : List Fact). behind gs (told_from ms B F (suc n) rs)) (sym k)
-    ∙ ap (λ m. behind gs (told_from ms B E m rs)) (sym (add-one n))))
+    ∙ (ap (λ (F : List Fact). after gs (told_from ms B F (suc n) rs)) (sym k)
+    ∙ ap (λ m. after gs (told_from ms B E m rs)) (sym (add-one n))))
 
 -- Where the update stops, the run is over.
 pub stops_here : (ms : List Rule) (B : ℕ) (D : List Fact) (n : ℕ) (r : Request) (rs : List Request) (P : Attempt) (l : Lack) (s : StopTold)
@@ -73,7 +73,7 @@ stops_here ms B D n r rs P l s w e =
     ∙ ap (λ (o : Option StopTold). told_at [] o D) e
 
 -- Where no updates are left, the run is over.
-pub ends_here : (ms : List Rule) (B : ℕ) (D : List Fact) (n : ℕ) (fs : List FinishTold) → behind fs (told_from ms B D n []) ≡ told_at fs None D
+pub ends_here : (ms : List Rule) (B : ℕ) (D : List Fact) (n : ℕ) (fs : List FinishTold) → after fs (told_from ms B D n []) ≡ told_at fs None D
 unfolding told_from
 ends_here ms B D n fs = ap (λ (gs : List FinishTold). told_at gs None D) (append-nil fs)
 

@@ -24,7 +24,7 @@ use Rattle.chase_update.specs.declared.results.Finish.{Finish}
 use Rattle.chase_update.specs.declared.results.Lack.{Lack}
 use Rattle.chase_update.specs.declared.results.SessionResult.{SessionResult}
 use Rattle.chase_update.specs.declared.results.Stop.{Stop}
-use Rattle.run_serial.specs.Runs.{HasFinished, behind, told_after, told_at, told_from}
+use Rattle.run_serial.specs.Runs.{HasFinished, after, told_after, told_at, told_from}
 use Rattle.run_serial.specs.Rests.{rest_from, turn_of, whole_rest}
 use Rattle.run_serial.specs.declared.wholes.Rest.{Rest}
 
@@ -67,13 +67,13 @@ HasEnded P fs fs' = (n : ℕ) → HasFinished n P (finishes_of fs) (finishes_of 
 -- finishes, and then the result of the later ones over D'.
 abbrev pub HasTaken : List Rule → ℕ → ℕ → SessionUpdate → Listed Finish → List Fact → Listed Finish → List Fact → Option Stop → Type 0
 HasTaken ms B n u fs D fs' D' stop =
-    (rs : List Request) → behind (finishes_of fs) (told_from ms B D n (request_of (update_of u) ∷ rs))
-    ≡ behind (finishes_of fs') (told_after ms B D' (n + 1) rs (option_map stop_of stop))
+    (rs : List Request) → after (finishes_of fs) (told_from ms B D n (request_of (update_of u) ∷ rs))
+    ≡ after (finishes_of fs') (told_after ms B D' (n + 1) rs (option_map stop_of stop))
 
 -- The turns of these updates, the first of them number 1, are over: what was to be reported of them is reported.
 abbrev pub HasTakenAll : List Rule → ℕ → List SessionUpdate → Listed Finish → List Fact → Listed Finish → List Fact → Option Stop → Type 0
 HasTakenAll ms B us fs D fs' D' stop =
-    behind (finishes_of fs) (told_from ms B D 1 (requests_of us)) ≡ told_at (finishes_of fs') (option_map stop_of stop) D'
+    after (finishes_of fs) (told_from ms B D 1 (requests_of us)) ≡ told_at (finishes_of fs') (option_map stop_of stop) D'
 
 -- The result is the one of the serial machine on the session, with a budget of B steps for each update.
 abbrev pub IsSerialRun : ℕ → SessionData → SessionResult → Type 0

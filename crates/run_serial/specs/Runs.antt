@@ -19,8 +19,8 @@ unfoldable pub told_from : List Rule → ℕ → List Fact → ℕ → List Requ
 told_from ms B D n rs = result_in (told caused ms B (serial (caused_chase ms B) D (turns_in caused ms B n rs)))
 
 -- The result with these finishes before its own.
-abbrev pub behind : List FinishTold → ResultTold → ResultTold
-behind fs r = record { finishes = fs ++ r.finishes; stop = r.stop; repository = r.repository }
+abbrev pub after : List FinishTold → ResultTold → ResultTold
+after fs r = record { finishes = fs ++ r.finishes; stop = r.stop; repository = r.repository }
 
 -- The result of a run that is over, at a stop or at its end, with D as its repository.
 abbrev pub told_at : List FinishTold → Option StopTold → List Fact → ResultTold

@@ -65,8 +65,8 @@ unfoldable pub trailed_from : List Rule → ℕ → List Fact → ℕ → List R
 trailed_from ms B D n rs = trailed caused ms B (serial (caused_chase ms B) D (turns_in caused ms B n rs))
 
 -- What is left with these trails before its own.
-abbrev pub behind : List (List Change) → TrailsTold → TrailsTold
-behind ts r = record { trails = ts ++ r.trails; stop = r.stop }
+abbrev pub after : List (List Change) → TrailsTold → TrailsTold
+after ts r = record { trails = ts ++ r.trails; stop = r.stop }
 
 -- What is left after a turn: the stop there, if there is one, or what the next updates leave.
 abbrev pub trailed_after : List Rule → ℕ → List Fact → ℕ → List Request → Option StopTold → TrailsTold
@@ -87,10 +87,10 @@ HasLeft P ts ts' = (ms : List Rule) (B : ℕ) → trails_of ts' ≡ trails_of ts
 -- then what the later ones leave over D'.
 abbrev pub HasTrailed : List Rule → ℕ → ℕ → SessionUpdate → Listed (Listed Write) → List Fact → Listed (Listed Write) → List Fact → Option Stop → Type 0
 HasTrailed ms B n u ts D ts' D' stop =
-    (rs : List Request) → behind (trails_of ts) (trailed_from ms B D n (request_of (update_of u) ∷ rs))
-    ≡ behind (trails_of ts') (trailed_after ms B D' (n + 1) rs (option_map stop_of stop))
+    (rs : List Request) → after (trails_of ts) (trailed_from ms B D n (request_of (update_of u) ∷ rs))
+    ≡ after (trails_of ts') (trailed_after ms B D' (n + 1) rs (option_map stop_of stop))
 
 -- The turns of these updates, the first of them number 1, are over: what they were to leave is left.
 abbrev pub HasTrailedAll : List Rule → ℕ → List SessionUpdate → Listed (Listed Write) → List Fact → Listed (Listed Write) → Option Stop → Type 0
 HasTrailedAll ms B us ts D ts' stop =
-    behind (trails_of ts) (trailed_from ms B D 1 (map request_of (map update_of us))) ≡ record { trails = trails_of ts'; stop = option_map stop_of stop }
+    after (trails_of ts) (trailed_from ms B D 1 (map request_of (map update_of us))) ≡ record { trails = trails_of ts'; stop = option_map stop_of stop }

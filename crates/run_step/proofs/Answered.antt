@@ -78,7 +78,7 @@ dropped zero ws = refl
 dropped (suc n) [] = refl
 dropped (suc n) (w ∷ ws) = ap (λ (vs : List Change). change_of w ∷ vs) (dropped n ws)
 
--- The first writes that were seen, and those behind them, are all.
+-- The first writes that were seen, and those after them, are all.
 pub seen_all : (n : ℕ) (ws vs : List Write) (own : List Change) → vs ≡ ws → take n (map change_of ws) ≡ own → own ++ map change_of (take (length vs - n) (drop n vs)) ≡ map change_of ws
 seen_all n ws vs own e f =
     ap (λ (us : List Write). own ++ map change_of (take (length us - n) (drop n us))) e

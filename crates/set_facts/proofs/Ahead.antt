@@ -125,10 +125,10 @@ relation_from r u e =
 pub rest_in_order : (t : Fact) (D rest : List Fact) → IsRepository D → rest ≡ filter (is_from t) D → IsRepository rest
 rest_in_order t D rest s e = subst IsRepository (sym e) (filter_in_order (is_from t) D s)
 
--- Behind a tuple of a greater relation nothing of the relation is found.
-none_behind : (p : Fact → Bool) (r : ℕ) (u : Fact) → ((v : Fact) → p v ≡ true → is_of r v ≡ true) → r < u.relation → (D : List Fact) → AllByRecursion (λ v. fact_cmp u v ≡ Less) D → find p D ≡ None
-none_behind p r u of h [] a = refl
-none_behind p r u of h (v ∷ D) a = by (p v) refl (none_behind p r u of h D a.1)
+-- After a tuple of a greater relation nothing of the relation is found.
+none_after : (p : Fact → Bool) (r : ℕ) (u : Fact) → ((v : Fact) → p v ≡ true → is_of r v ≡ true) → r < u.relation → (D : List Fact) → AllByRecursion (λ v. fact_cmp u v ≡ Less) D → find p D ≡ None
+none_after p r u of h [] a = refl
+none_after p r u of h (v ∷ D) a = by (p v) refl (none_after p r u of h D a.1)
   where
     greater : u.relation ≤ v.relation
     greater = relation_le u v (ap is_le a.0)
@@ -143,7 +143,7 @@ none_from p r u D of h s = by (p u) refl
   where
     by : (b : Bool) → p u ≡ b → cond b (Some u) (find p D) ≡ None
     by true e = differ (sym (ne_eqb u.relation r (λ f. omega (arith, f, h))) ∙ of u e)
-    by false e = none_behind p r u of h D s.0
+    by false e = none_after p r u of h D s.0
 
 -- So from the place of such a tuple on.
 pub none_at : (p : Fact → Bool) (r : ℕ) (E : List Tuple) (i : ℕ) (u : Tuple) → ((v : Fact) → p v ≡ true → is_of r v ≡ true) → r < u.relation → IsRepository (map fact_of E) → i < length E → u ≡ get_or E i u → find p (map fact_of (drop i E)) ≡ None

@@ -102,7 +102,7 @@ filter_mapped p q same (k ∷ ks) = by (p k) (filter_mapped p q same ks) ∙ ap 
     by true h = ap (λ l. fact_of k ∷ l) h
     by false h = h
 
--- So the range from behind a tuple up to the next relation.
+-- So does the range that begins after a tuple and ends before the next relation.
 pub past_in_range : (p : Tuple → Bool) (t : Fact) → ((k : Tuple) → p k ≡ (is_beyond (Some t) (fact_of k) && not (is_le (fact_cmp (least (t.relation + 1)) (fact_of k))))) → (ks : List Tuple) → map fact_of (filter p ks) ≡ filter (is_past t) (map fact_of ks)
 past_in_range p t h = filter_mapped p (is_past t) (λ k. h k ∙ past_within t (fact_of k))
 

@@ -1,4 +1,4 @@
--- A relation before that of a set's first tuple, or behind that of its last one, has no tuple in it.
+-- A relation before that of a set's first tuple, or after that of its last one, has no tuple in it.
 use Rattle.std.proofs.Common.{◌≡◌, ◌∙◌, ◌<◌, ◌-◌, ℕ, suc, ap, refl, sym, List, [], ◌∷◌, ◌||◌, false, map, length, subst, slice_get, Some, arith}
 use Rattle.std.proofs.lemmas.Bool.{ne_eqb}
 use Rattle.std.proofs.lemmas.Option.{same_Some}
@@ -12,7 +12,7 @@ use Rattle.def_chase.specs.Repository.{IsRepository}
 use Rattle.def_chase.proofs.Ranges.{relation_le}
 use Rattle.base_types.specs.Meanings.{fact_of}
 use Rattle.base_types.specs.declared.tuples.Tuple.{Tuple}
-use Rattle.set_facts.proofs.Behind.{below_last}
+use Rattle.set_facts.proofs.After.{below_last}
 
 none_above : (r : ℕ) (v : Fact) (D : List Fact) → r < v.relation → AllByRecursion (λ y. fact_cmp v y ≡ Less) D → list_any (is_of r) D ≡ false
 none_above r v [] h a = refl
@@ -36,8 +36,8 @@ none_below r u (v ∷ D) s a g h =
     let below = relation_le (fact_of u) (fact_of s) (ap is_le (below_last (fact_of u) v D s g a.0)) in
     ap (λ b. b || list_any (is_of r) (map fact_of (v ∷ D))) (ne_eqb u.relation r (λ e. omega (arith, e, below, h))) ∙ none_below r v D s a.1 g h
 
-pub behind_last : (r : ℕ) (D : List Tuple) (s : Tuple) → IsRepository (map fact_of D) → slice_get D (length D - 1) ≡ Some s → s.relation < r → list_any (is_of r) (map fact_of D) ≡ false
-behind_last r [] s a g h = refl
-behind_last r (u ∷ D) s a g h =
+pub after_last : (r : ℕ) (D : List Tuple) (s : Tuple) → IsRepository (map fact_of D) → slice_get D (length D - 1) ≡ Some s → s.relation < r → list_any (is_of r) (map fact_of D) ≡ false
+after_last r [] s a g h = refl
+after_last r (u ∷ D) s a g h =
     let one : suc (length D) - 1 ≡ length D = omega arith in
     none_below r u D s a (ap (slice_get (u ∷ D)) (sym one) ∙ g) h

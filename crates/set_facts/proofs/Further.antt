@@ -187,15 +187,15 @@ module _ (r : ℕ) (c : Option (ℕ × Datum)) (past : Option Fact) (D rest : Li
   pub one_left : false ≡ passes r c past t → these D ≡ these rest
   one_left e = by_test ∙ ap (λ b. cond b (t ∷ these rest) (these rest)) (sym e)
 
-  -- From a tuple of a greater relation on there is none, nor behind it.
+  -- From a tuple of a greater relation on there is none, nor after it.
   module _ (s : IsRepository D) (h : r < t.relation) where
     pub none_further : these D ≡ []
     none_further =
         further_as r c past D ∙ ap (filter (passes r c past)) next
         ∙ none_passes (passes r c past) (t ∷ rest) (none_from (passes r c past) r t rest (λ u e. candidate_of r c u (first (is_candidate r c u) (is_beyond past u) e)) h (subst IsRepository next s))
 
-    pub none_behind : these rest ≡ []
-    none_behind = by (passes r c past t) refl
+    pub none_after : these rest ≡ []
+    none_after = by (passes r c past t) refl
       where
         by : (b : Bool) → passes r c past t ≡ b → these rest ≡ []
         by true e = no (sym (one_kept (sym e)) ∙ none_further)

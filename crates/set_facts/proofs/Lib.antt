@@ -16,7 +16,7 @@ pub mod Changing
 pub mod Related
 pub mod Beginning
 pub mod AtHand
-pub mod Behind
+pub mod After
 pub mod Beside
 pub mod Sought
 pub mod Spanning

@@ -32,7 +32,7 @@ module _ (t : Tuple) (rest : List Fact) where
       let less : suc k - 1 ≡ k = omega arith in
       ap (λ l. map fact_of (ys ++ t ∷ l) ++ take (suc k - 1) rest) (take_none k) ∙ ap (λ m. map fact_of (ys ++ t ∷ []) ++ take m rest) less ∙ joined k ys
 
--- With one more tuple behind them they and what is to come are what they were.
+-- With one more tuple after them they and what is to come are what they were.
 pub few_more : (few more : Batch Tuple) (t : Tuple) (rest left : List Fact) → left ≡ fact_of t ∷ rest → 1 ≤ few.room → more ≡ with_first few (t ∷ [])
     → (map fact_of more.left ++ take more.room rest ≡ map fact_of few.left ++ take few.room left) × (more.room - length rest ≡ few.room - length left)
 few_more few more t rest left next room is =

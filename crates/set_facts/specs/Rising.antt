@@ -12,5 +12,5 @@ tuples_held (Listed tuples) = tuples
 tuples_held (Tree facts) = facts
 
 -- The tuple comes after each of these.
-abbrev pub IsBehind : Fact → List Fact → Type 0
-IsBehind t D = AllByRecursion (λ u. fact_cmp t u ≡ Greater) D
+abbrev pub IsAfter : Fact → List Fact → Type 0
+IsAfter t D = AllByRecursion (λ u. fact_cmp t u ≡ Greater) D

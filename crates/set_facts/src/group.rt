@@ -172,7 +172,7 @@ impl Group {
         ensures in_order { IsRepository self.now }
     {
         match &self.held {
-            Held::Listed(tuples) => Candidates::Listed(tuples.behind(past)),
+            Held::Listed(tuples) => Candidates::Listed(tuples.all_beyond(past)),
             Held::Tree(facts) => facts.at_hand(past),
         }
     }

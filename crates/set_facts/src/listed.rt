@@ -8,7 +8,7 @@ ghost use Rattle.base_types.specs.Candidates.{column_of, is_candidate as is_cand
 ghost use Rattle.base_types.specs.Meanings.{fact_of, datum_of};
 ghost use Rattle.set_facts.specs.Courses.{is_ahead};
 ghost use Rattle.set_facts.specs.Places.{IsBetween, HasAllThat, is_from};
-ghost use Rattle.set_facts.specs.Rising.{IsBehind};
+ghost use Rattle.set_facts.specs.Rising.{IsAfter};
 
 use crate::plain::PlainFacts;
 use crate::scanned::{is_beyond, is_candidate, is_scanned, of_relation};
@@ -69,7 +69,7 @@ impl ListedFacts {
     }
 
     /// All its tuples above the given one, or all if none is given, in order.
-    pub(crate) fn behind(&self, past: Option<&Tuple>) -> &[Tuple]
+    pub(crate) fn all_beyond(&self, past: Option<&Tuple>) -> &[Tuple]
         ensures tuples { map fact_of result.now ≡
             filter (is_beyond_tuple (option_map fact_of (option_copied past.entry))) self.now }
         ensures in_order { IsRepository self.now }
@@ -134,7 +134,7 @@ impl ListedFacts {
         ensures err { OnErr result (self.new ≡ self.old) }
         ensures in_order { IsRepository self.new }
     {
-        if comes_behind(&self.tuples, &tuple) {
+        if comes_after(&self.tuples, &tuple) {
             return add(&mut self.tuples, tuple);
         }
         match self.tuples.binary_search(&tuple) {
@@ -202,7 +202,8 @@ impl ListedFacts {
     /// Whether it has no tuple of the relation with the column's value, if a column is given.
     pub(crate) fn lacks(&self, relation: u16, column: Option<Column<'_>>) -> bool
         ensures none { IsTrue result →
-            list_any (is_candidate_tuple relation (option_map column_of column.entry)) self.now ≡ false }
+            list_any (is_candidate_tuple relation (option_map column_of column.entry)) self.now
+            ≡ false }
     {
         if self.tuples.is_empty() {
             return true;
@@ -322,9 +323,9 @@ fn above<'a>(tuples: &'a [Tuple], tuple: &Tuple) -> &'a [Tuple]
 }
 
 // Whether the tuple comes after the last one of the list.
-fn comes_behind(tuples: &Vec<Tuple>, tuple: &Tuple) -> bool
+fn comes_after(tuples: &Vec<Tuple>, tuple: &Tuple) -> bool
     requires { IsRepository (map fact_of tuples.now.items) }
-    ensures behind { IsTrue result → IsBehind (fact_of tuple.now) (map fact_of tuples.now.items) }
+    ensures after { IsTrue result → IsAfter (fact_of tuple.now) (map fact_of tuples.now.items) }
 {
     match tuples.last() {
         Some(last) => match last.cmp(tuple) {
@@ -338,7 +339,7 @@ fn comes_behind(tuples: &Vec<Tuple>, tuple: &Tuple) -> bool
 
 // Adds a tuple that comes after all others. The first one takes memory for one tuple only.
 fn add(tuples: &mut Vec<Tuple>, tuple: Tuple) -> Result<bool, (Tuple, Memory)>
-    requires behind { IsBehind (fact_of tuple) (map fact_of tuples.old.items) }
+    requires after { IsAfter (fact_of tuple) (map fact_of tuples.old.items) }
     requires in_order { IsRepository (map fact_of tuples.old.items) }
     ensures changed { IfOk result
         (λ changed. changed ≡ not (has (map fact_of tuples.old.items) (fact_of tuple))) }

@@ -16,7 +16,8 @@ use std::hash::BuildHasherDefault;
 
 /// The tuples that are kept at the nulls of this name, if there are any.
 pub fn holders(by_null: &Groups, name: OuterName) -> Option<&Group>
-    ensures kept { unwrap_or (option_copied result) [] ≡ holders_in by_null.now name.update name.place }
+    ensures kept { unwrap_or (option_copied result) []
+        ≡ holders_in by_null.now name.update name.place }
 {
     by_null.get(&outer(name))
 }

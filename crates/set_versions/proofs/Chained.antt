@@ -33,7 +33,7 @@ none_under : (es : List (Reverse ℕ × Bool)) → last_under 0 es ≡ None
 none_under [] = refl
 none_under (e ∷ es) = rw (le-ltb e.0.0 0 (omega arith)) (none_under es)
 
--- Behind a marker of a lower update there is none of update n.
+-- After a marker of a lower update there is none of update n.
 none_at : (n : ℕ) (e : Reverse ℕ) (es : List (Reverse ℕ × Bool)) → e.0 < n → AllByRecursion (λ y. newest_cmp e y ≡ Less) (keys_of es) → mark_at n es ≡ None
 none_at n e [] h a = refl
 none_at n e (f ∷ es) h a = by (nat_cmp f.0.0 n) (ranked f.0.0 n (nat_cmp f.0.0 n) refl) (less_is f.0.0 e.0 a.0) (none_at n e es h a.1)

@@ -39,9 +39,9 @@ absent_below t (u ∷ D) a = (λ i. not_below t u a.0 i || absent_below t D a.1 
 
 -- Some tuples in order, and a tuple beside the first of them.
 module _ (P Q : List Fact) (h t : Fact) (is : P ≡ h ∷ Q) (s : IsRepository P) where
-  pub behind_in_order : IsRepository Q
+  pub rest_in_order : IsRepository Q
   unfolding IsStrictlySortedBy
-  behind_in_order = (subst IsRepository is s).1
+  rest_in_order = (subst IsRepository is s).1
 
   pub has_passed : fact_cmp h t ≡ Less → has P t ≡ has Q t
   has_passed e = ap (λ (D : List Fact). has D t) is ∙ ap (λ b. b || has Q t) (not_above h t e)
@@ -66,15 +66,15 @@ left_same P Q t h (u ∷ D) a =
     ap (λ b. cond (not b) (u ∷ left_of Q D) (left_of Q D)) (h u a.0) ∙ ap (λ (l : List Fact). cond (not (has P u)) (u ∷ l) l) (left_same P Q t h D a.1)
 
 module _ (P Q D rest : List Fact) (t : Fact) (next : D ≡ t ∷ rest) (s : IsRepository D) (above : (u : Fact) → fact_cmp t u ≡ Less → has Q u ≡ has P u) where
-  those_behind : left_of Q rest ≡ left_of P rest
+  those_after : left_of Q rest ≡ left_of P rest
   unfolding IsStrictlySortedBy
-  those_behind = left_same P Q t above rest (subst IsRepository next s).0
+  those_after = left_same P Q t above rest (subst IsRepository next s).0
 
   pub left_kept : false ≡ has P t → left_of P D ≡ t ∷ left_of Q rest
-  left_kept e = ap (left_of P) next ∙ ap (λ b. cond (not b) (t ∷ left_of P rest) (left_of P rest)) (sym e) ∙ ap (λ l. t ∷ l) (sym those_behind)
+  left_kept e = ap (left_of P) next ∙ ap (λ b. cond (not b) (t ∷ left_of P rest) (left_of P rest)) (sym e) ∙ ap (λ l. t ∷ l) (sym those_after)
 
   pub left_passed : true ≡ has P t → left_of P D ≡ left_of Q rest
-  left_passed e = ap (left_of P) next ∙ ap (λ b. cond (not b) (t ∷ left_of P rest) (left_of P rest)) (sym e) ∙ sym those_behind
+  left_passed e = ap (left_of P) next ∙ ap (λ b. cond (not b) (t ∷ left_of P rest) (left_of P rest)) (sym e) ∙ sym those_after
 
 -- ---- the taken tuples
 
@@ -88,7 +88,7 @@ module _ {V : Type 0} where
   taken_in_order [] s = tt
   taken_in_order (e ∷ es) s = (below_all e.0 es s.0, taken_in_order es s.1)
 
--- Behind the last one there is none.
-pub none_behind_it : {A : Type 0} (o : Option (Bor A)) (D rest : List A) → D ≡ option_to_list (option_copied o) ++ rest → IfNone o (D ≡ []) → IfNone o (rest ≡ [])
-none_behind_it None D rest step end = sym step ∙ end
-none_behind_it (Some x) D rest step end = tt
+-- After the last one there is none.
+pub none_after_it : {A : Type 0} (o : Option (Bor A)) (D rest : List A) → D ≡ option_to_list (option_copied o) ++ rest → IfNone o (D ≡ []) → IfNone o (rest ≡ [])
+none_after_it None D rest step end = sym step ∙ end
+none_after_it (Some x) D rest step end = tt

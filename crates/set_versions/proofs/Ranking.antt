@@ -10,7 +10,7 @@ use Rattle.std.specs.declared.cmp.Ordering.{Ordering}
 use Rattle.std.specs.declared.cmp.Ordering.TheVariants.{Less, Equal, Greater}
 use Rattle.def_chase.specs.Values.{Datum, Number, Text, Unknown, Fact, datum_cmp, fact_cmp, null_cmp, NullName}
 use Rattle.set_versions.specs.Cells.{value_in, values_cmp}
-use Rattle.set_versions.specs.Ranks.{behind_byte, bytes_behind, first_byte, kind_span, middle, null_rank, number_rank, rank_at, rank_of, value_rank, value_span, word_rank}
+use Rattle.set_versions.specs.Ranks.{after_byte, bytes_after, first_byte, kind_span, middle, null_rank, number_rank, rank_at, rank_of, value_rank, value_span, word_rank}
 use Rattle.set_versions.specs.Zones.{place_beyond, place_lead}
 
 -- Numbers x and y that do not fall along the answer o.
@@ -43,9 +43,9 @@ first_only Equal o x y h = tied o h
     tied Greater h = omega arith
 first_only Greater o x y h = h
 
--- With a number in front that is compared first, where those behind stay below r.
-behind : (r a b x y : ℕ) → x < r → a < b → a * r + x ≤ b * r + y
-behind r a b x y h k =
+-- With a number in front that is compared first, where those after it stay below r.
+after : (r a b x y : ℕ) → x < r → a < b → a * r + x ≤ b * r + y
+after r a b x y h k =
     let e : suc a * r ≤ b * r = mul-le (suc a) r b r k (omega arith) in
     let f : suc a * r ≡ a * r + r = grind arith in
     omega arith
@@ -54,11 +54,11 @@ both : (r a b x y : ℕ) (o : Ordering) → x < r → y < r → Follow o x y →
 both r a b x y o h k f = by (nat_cmp a b) (ranked a b (nat_cmp a b) refl) o f
   where
     by : (c : Ordering) → MatchOrdering c (a < b) (a ≡ b) (b < a) → (o : Ordering) → Follow o x y → Follow (ordering_then c o) (a * r + x) (b * r + y)
-    by Less m o f = behind r a b x y h m
+    by Less m o f = after r a b x y h m
     by Equal m Less f = subst (λ c. a * r + x ≤ c * r + y) m (omega arith)
     by Equal m Equal f = subst (λ c. a * r + x ≡ c * r + y) m (ap (λ z. a * r + z) f)
     by Equal m Greater f = subst (λ c. c * r + y ≤ a * r + x) m (omega arith)
-    by Greater m o f = behind r b a y x k m
+    by Greater m o f = after r b a y x k m
 
 capped : (x y m : ℕ) → Follow (nat_cmp x y) (min x m) (min y m)
 capped x y m = by (nat_cmp x y) (ranked x y (nat_cmp x y) refl)
@@ -99,33 +99,33 @@ byte_small : (v : List ℕ) → first_byte v ≤ 255
 byte_small [] = omega arith
 byte_small (b ∷ bs) = omega arith
 
-bytes_above : (n k l : ℕ) (v w : List ℕ) → k < l → bytes_behind n k v ≤ bytes_behind n l w
+bytes_above : (n k l : ℕ) (v w : List ℕ) → k < l → bytes_after n k v ≤ bytes_after n l w
 bytes_above zero k l v w h = omega arith
 bytes_above (suc n) k l v w h =
     let small : first_byte v ≤ 255 = byte_small v in
-    bytes_above n (k * 256 + first_byte v) (l * 256 + first_byte w) (behind_byte v) (behind_byte w) (omega arith)
+    bytes_above n (k * 256 + first_byte v) (l * 256 + first_byte w) (after_byte v) (after_byte w) (omega arith)
 
 same : (o : Ordering) (x : ℕ) → Follow o x x
 same Less x = omega arith
 same Equal x = refl
 same Greater x = omega arith
 
--- Behind a byte of 255 or more nothing is compared.
-last_byte : (b : ℕ) (bs : List ℕ) → 255 ≤ b → behind_byte (b ∷ bs) ≡ []
+-- After a byte of 255 or more nothing is compared.
+last_byte : (b : ℕ) (bs : List ℕ) → 255 ≤ b → after_byte (b ∷ bs) ≡ []
 last_byte b bs h = ap (λ t. cond t bs []) (le-ltb b 255 h)
 
 -- A lower byte in front.
-lower_byte : (n k b c : ℕ) (bs cs : List ℕ) → b < c → bytes_behind (suc n) k (b ∷ bs) ≤ bytes_behind (suc n) k (c ∷ cs)
+lower_byte : (n k b c : ℕ) (bs cs : List ℕ) → b < c → bytes_after (suc n) k (b ∷ bs) ≤ bytes_after (suc n) k (c ∷ cs)
 lower_byte n k b c bs cs h = by (nat_lt b 255) refl
   where
-    by : (p : Bool) → nat_lt b 255 ≡ p → bytes_behind (suc n) k (b ∷ bs) ≤ bytes_behind (suc n) k (c ∷ cs)
+    by : (p : Bool) → nat_lt b 255 ≡ p → bytes_after (suc n) k (b ∷ bs) ≤ bytes_after (suc n) k (c ∷ cs)
     by true e =
         let l : b < 255 = ltb-true b 255 e in
-        bytes_above n (k * 256 + min b 255) (k * 256 + min c 255) (behind_byte (b ∷ bs)) (behind_byte (c ∷ cs)) (omega arith)
+        bytes_above n (k * 256 + min b 255) (k * 256 + min c 255) (after_byte (b ∷ bs)) (after_byte (c ∷ cs)) (omega arith)
     by false e =
         let l : 255 ≤ b = ltb-false b 255 e in
         let d : min b 255 ≡ min c 255 = omega arith in
-        rw (last_byte b bs l, last_byte c cs (omega arith), d) (same Less (bytes_behind n (k * 256 + min c 255) []))
+        rw (last_byte b bs l, last_byte c cs (omega arith), d) (same Less (bytes_after n (k * 256 + min c 255) []))
 
 -- No word comes before the empty one.
 least : (w : List ℕ) {x y : ℕ} → Follow (slice_cmp nat_cmp [] w) x y → x ≤ y
@@ -136,46 +136,46 @@ greatest : (w : List ℕ) {x y : ℕ} → Follow (slice_cmp nat_cmp w []) x y �
 greatest [] f = omega (arith, f)
 greatest (b ∷ bs) f = f
 
-bytes : (n k : ℕ) (v w : List ℕ) → Follow (slice_cmp nat_cmp v w) (bytes_behind n k v) (bytes_behind n k w)
+bytes : (n k : ℕ) (v w : List ℕ) → Follow (slice_cmp nat_cmp v w) (bytes_after n k v) (bytes_after n k w)
 bytes zero k v w = same (slice_cmp nat_cmp v w) k
 bytes (suc n) k [] [] = refl
 bytes (suc n) k [] (c ∷ cs) = first c (least cs (bytes n (k * 256 + 0) [] cs))
   where
-    first : (c : ℕ) → bytes_behind n (k * 256 + 0) [] ≤ bytes_behind n (k * 256 + 0) cs → bytes_behind n (k * 256 + 0) [] ≤ bytes_behind n (k * 256 + min c 255) (behind_byte (c ∷ cs))
+    first : (c : ℕ) → bytes_after n (k * 256 + 0) [] ≤ bytes_after n (k * 256 + 0) cs → bytes_after n (k * 256 + 0) [] ≤ bytes_after n (k * 256 + min c 255) (after_byte (c ∷ cs))
     first zero f = f
-    first (suc c) f = bytes_above n (k * 256 + 0) (k * 256 + min (suc c) 255) [] (behind_byte (suc c ∷ cs)) (omega arith)
+    first (suc c) f = bytes_above n (k * 256 + 0) (k * 256 + min (suc c) 255) [] (after_byte (suc c ∷ cs)) (omega arith)
 bytes (suc n) k (b ∷ bs) [] = first b (greatest bs (bytes n (k * 256 + 0) bs []))
   where
-    first : (b : ℕ) → bytes_behind n (k * 256 + 0) [] ≤ bytes_behind n (k * 256 + 0) bs → bytes_behind n (k * 256 + 0) [] ≤ bytes_behind n (k * 256 + min b 255) (behind_byte (b ∷ bs))
+    first : (b : ℕ) → bytes_after n (k * 256 + 0) [] ≤ bytes_after n (k * 256 + 0) bs → bytes_after n (k * 256 + 0) [] ≤ bytes_after n (k * 256 + min b 255) (after_byte (b ∷ bs))
     first zero f = f
-    first (suc b) f = bytes_above n (k * 256 + 0) (k * 256 + min (suc b) 255) [] (behind_byte (suc b ∷ bs)) (omega arith)
+    first (suc b) f = bytes_above n (k * 256 + 0) (k * 256 + min (suc b) 255) [] (after_byte (suc b ∷ bs)) (omega arith)
 bytes (suc n) k (b ∷ bs) (c ∷ cs) = by (nat_cmp b c) (ranked b c (nat_cmp b c) refl) (bytes n (k * 256 + min b 255) bs cs)
   where
-    alike : (p : Bool) → Follow (slice_cmp nat_cmp bs cs) (bytes_behind n (k * 256 + min b 255) bs) (bytes_behind n (k * 256 + min b 255) cs)
-        → Follow (slice_cmp nat_cmp bs cs) (bytes_behind n (k * 256 + min b 255) (cond p bs [])) (bytes_behind n (k * 256 + min b 255) (cond p cs []))
+    alike : (p : Bool) → Follow (slice_cmp nat_cmp bs cs) (bytes_after n (k * 256 + min b 255) bs) (bytes_after n (k * 256 + min b 255) cs)
+        → Follow (slice_cmp nat_cmp bs cs) (bytes_after n (k * 256 + min b 255) (cond p bs [])) (bytes_after n (k * 256 + min b 255) (cond p cs []))
     alike true f = f
-    alike false f = same (slice_cmp nat_cmp bs cs) (bytes_behind n (k * 256 + min b 255) [])
+    alike false f = same (slice_cmp nat_cmp bs cs) (bytes_after n (k * 256 + min b 255) [])
 
-    by : (o : Ordering) → MatchOrdering o (b < c) (b ≡ c) (c < b) → Follow (slice_cmp nat_cmp bs cs) (bytes_behind n (k * 256 + min b 255) bs) (bytes_behind n (k * 256 + min b 255) cs)
-        → Follow (ordering_then o (slice_cmp nat_cmp bs cs)) (bytes_behind (suc n) k (b ∷ bs)) (bytes_behind (suc n) k (c ∷ cs))
+    by : (o : Ordering) → MatchOrdering o (b < c) (b ≡ c) (c < b) → Follow (slice_cmp nat_cmp bs cs) (bytes_after n (k * 256 + min b 255) bs) (bytes_after n (k * 256 + min b 255) cs)
+        → Follow (ordering_then o (slice_cmp nat_cmp bs cs)) (bytes_after (suc n) k (b ∷ bs)) (bytes_after (suc n) k (c ∷ cs))
     by Less m f = lower_byte n k b c bs cs m
-    by Equal m f = subst (λ d. Follow (slice_cmp nat_cmp bs cs) (bytes_behind (suc n) k (b ∷ bs)) (bytes_behind (suc n) k (d ∷ cs))) m (alike (nat_lt b 255) f)
+    by Equal m f = subst (λ d. Follow (slice_cmp nat_cmp bs cs) (bytes_after (suc n) k (b ∷ bs)) (bytes_after (suc n) k (d ∷ cs))) m (alike (nat_lt b 255) f)
     by Greater m f = lower_byte n k c b cs bs m
 
--- What numbers below m stay below with n bytes behind them.
+-- What numbers below m stay below with n bytes after them.
 abbrev room : ℕ → ℕ → ℕ
 room zero m = m
 room (suc n) m = room n (m * 256)
 
 -- Bytes of a word stay below what there is room for.
-pub bytes_small : (n k m : ℕ) (w : List ℕ) → k < m → bytes_behind n k w < room n m
+pub bytes_small : (n k m : ℕ) (w : List ℕ) → k < m → bytes_after n k w < room n m
 bytes_small zero k m w h = h
 bytes_small (suc n) k m w h =
     let small : first_byte w ≤ 255 = byte_small w in
-    bytes_small n (k * 256 + first_byte w) (m * 256) (behind_byte w) (omega arith)
+    bytes_small n (k * 256 + first_byte w) (m * 256) (after_byte w) (omega arith)
 
-five_bytes : (w : List ℕ) → bytes_behind 5 0 w ≡ word_rank w
-five_bytes w = let e : 0 + first_byte w ≡ first_byte w = omega arith in ap (λ k. bytes_behind 4 k (behind_byte w)) e
+five_bytes : (w : List ℕ) → bytes_after 5 0 w ≡ word_rank w
+five_bytes w = let e : 0 + first_byte w ≡ first_byte w = omega arith in ap (λ k. bytes_after 4 k (after_byte w)) e
 
 words : (v w : List ℕ) → Follow (slice_cmp nat_cmp v w) (word_rank v) (word_rank w)
 words v w = rw (sym (five_bytes v), sym (five_bytes w)) (bytes 5 0 v w)
@@ -183,7 +183,7 @@ words v w = rw (sym (five_bytes v), sym (five_bytes w)) (bytes 5 0 v w)
 word_small : (w : List ℕ) → word_rank w < kind_span
 word_small w =
     let e = five_bytes w in
-    let h : bytes_behind 5 0 w < 1099511627776 = bytes_small 5 0 1 w (omega arith) in
+    let h : bytes_after 5 0 w < 1099511627776 = bytes_small 5 0 1 w (omega arith) in
     omega (arith, e, h)
 
 number_small : (i : ℤ) → number_rank i < kind_span

@@ -66,8 +66,8 @@ none_passes {X} p q (y ∷ xs) {x} n e h = by (p y) refl n (q y) e (λ m f. none
     by false k m false f rest = rest m f
 
 module _ {K V : Type 0} {R : K → K → Ordering} (o : IsTotalOrder R) where
-  behind : (x : K × V) (es : List (K × V)) → IsOrdered R (x ∷ es) → AllByRecursion (λ (y : K × V). R x.0 y.0 ≡ Less) es
-  behind x es s = (sides R [] x es s).above
+  after : (x : K × V) (es : List (K × V)) → IsOrdered R (x ∷ es) → AllByRecursion (λ (y : K × V). R x.0 y.0 ≡ Less) es
+  after x es s = (sides R [] x es s).above
 
   -- The key of what is found is found at that entry.
   pub found_at : (p : K × V → Bool) (es : List (K × V)) {e : K × V} → IsOrdered R es → find p es ≡ Some e → find (λ f. is_eq (R e.0 f.0)) es ≡ Some e
@@ -80,7 +80,7 @@ module _ {K V : Type 0} {R : K → K → Ordering} (o : IsTotalOrder R) where
           let same : x ≡ e = cc in
           ap (λ b. cond b (Some x) (find (λ (f : K × V). is_eq (R e.0 f.0)) es)) (ap (λ (z : K × V). is_eq (R e.0 z.0)) same ∙ ap is_eq (tied_itself o e.0)) ∙ ap (λ (z : K × V). Some z) same
       by false f rest =
-          let above : R x.0 e.0 ≡ Less = found_all (λ (y : K × V). R x.0 y.0 ≡ Less) p es (behind x es s) f in
+          let above : R x.0 e.0 ≡ Less = found_all (λ (y : K × V). R x.0 y.0 ≡ Less) p es (after x es s) f in
           ap (λ a. cond (is_eq a) (Some x) (find (λ (f : K × V). is_eq (R e.0 f.0)) es)) (o.antisymm e.0 x.0 ∙ ap ordering_reverse above) ∙ rest f
 
   -- Nothing that passes and is there has a lower key than what is found.
@@ -97,7 +97,7 @@ module _ {K V : Type 0} {R : K → K → Ordering} (o : IsTotalOrder R) where
           absurd (cc)
       by true i a false b rest =
           let first : x ≡ e = cc in
-          let above : R x.0 f.0 ≡ Less = found_all (λ (y : K × V). R x.0 y.0 ≡ Less) q es (behind x es s) b in
+          let above : R x.0 f.0 ≡ Less = found_all (λ (y : K × V). R x.0 y.0 ≡ Less) q es (after x es s) b in
           let turned : R f.0 x.0 ≡ Greater = o.antisymm f.0 x.0 ∙ ap ordering_reverse above in
           let again : R f.0 x.0 ≡ Less = ap (λ (z : K × V). R f.0 z.0) first ∙ low in
           absurd (cc)
@@ -201,7 +201,7 @@ module _ (n r c : ℕ) (d : Datum) (past : Option Fact) where
   facts_in_order : (es : List (Cell × Marks)) → IsOrdered (on cell_of cell_cmp) es → IsRepository (facts_in es)
   unfolding IsStrictlySortedBy
   facts_in_order [] s = tt
-  facts_in_order (x ∷ es) s = by (sought x) refl (behind (on_total cell_of cell_total) x es s) (facts_in_order es s.1)
+  facts_in_order (x ∷ es) s = by (sought x) refl (after (on_total cell_of cell_total) x es s) (facts_in_order es s.1)
     where
       by : (b : Bool) → sought x ≡ b → AllByRecursion (λ (y : Cell × Marks). cell_cmp (cell_of x.0) (cell_of y.0) ≡ Less) es → IsRepository (facts_in es)
           → IsStrictlySortedBy fact_cmp (map (λ (t : Tuple). fact_of t) (map (λ (e : Cell × Marks). e.0.tuple) (cond b (x ∷ filter sought es) (filter sought es))))
@@ -212,7 +212,7 @@ module _ (n r c : ℕ) (d : Datum) (past : Option Fact) where
   never true = refl
   never false = refl
 
-  -- Behind a cell there is no other at its column and tuple.
+  -- After a cell there is no other at its column and tuple.
   none_later : (u : Fact) (x : Cell × Marks) (es : List (Cell × Marks)) → (c, u) ≡ cell_of x.0 → AllByRecursion (λ (y : Cell × Marks). cell_cmp (cell_of x.0) (cell_of y.0) ≡ Less) es → find (λ (e : Cell × Marks). same_cell (c, u) (cell_of e.0)) es ≡ None
   none_later u x es is a =
       find_none (λ (e : Cell × Marks). same_cell (c, u) (cell_of e.0)) es (all_weaker _ _ (λ (y : Cell × Marks) b. ap is_eq (ap (λ z. cell_cmp z (cell_of y.0)) is ∙ b)) es a)
@@ -221,7 +221,7 @@ module _ (n r c : ℕ) (d : Datum) (past : Option Fact) where
   facts_have : (u : Fact) (es : List (Cell × Marks)) → IsOrdered (on cell_of cell_cmp) es → has (facts_in es) u ≡ (scanned u && stands n (cell_marks es c u))
   unfolding IsStrictlySortedBy
   facts_have u [] s = sym (never (scanned u))
-  facts_have u (x ∷ es) s = by (sought x) refl (same_cell (c, u) (cell_of x.0)) refl (behind (on_total cell_of cell_total) x es s) (facts_have u es s.1)
+  facts_have u (x ∷ es) s = by (sought x) refl (same_cell (c, u) (cell_of x.0)) refl (after (on_total cell_of cell_total) x es s) (facts_have u es s.1)
     where
       here : sought x ≡ true → (c, u) ≡ cell_of x.0 → (scanned u && stands n x.1) ≡ true
       here h is = both (scanned u) (stands n x.1) (ap (λ (z : ℕ × Fact). scanned z.1) is ∙ sought_tuple x h) (sought_stands x h)

@@ -24,18 +24,18 @@ abbrev pub first_byte : List ℕ → ℕ
 first_byte [] = 0
 first_byte (b ∷ bs) = min b 255
 
-abbrev pub behind_byte : List ℕ → List ℕ
-behind_byte [] = []
-behind_byte (b ∷ bs) = cond (nat_lt b 255) bs []
+abbrev pub after_byte : List ℕ → List ℕ
+after_byte [] = []
+after_byte (b ∷ bs) = cond (nat_lt b 255) bs []
 
 -- The number k with the next n bytes of the word as further digits.
-abbrev pub bytes_behind : ℕ → ℕ → List ℕ → ℕ
-bytes_behind zero k w = k
-bytes_behind (suc n) k w = bytes_behind n (k * 256 + first_byte w) (behind_byte w)
+abbrev pub bytes_after : ℕ → ℕ → List ℕ → ℕ
+bytes_after zero k w = k
+bytes_after (suc n) k w = bytes_after n (k * 256 + first_byte w) (after_byte w)
 
 -- The first five bytes of a word as one number.
 abbrev pub word_rank : List ℕ → ℕ
-word_rank w = bytes_behind 4 (first_byte w) (behind_byte w)
+word_rank w = bytes_after 4 (first_byte w) (after_byte w)
 
 -- The update and the place of a null as one number.
 abbrev pub null_rank : ℕ → ℕ → ℕ

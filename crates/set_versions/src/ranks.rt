@@ -2,7 +2,7 @@
 ghost use Rattle.std.specs.Prelude.{◌≡◌, ◌<◌, ◌≤◌};
 ghost use Rattle.std.specs.Option.{option_map, option_copied};
 ghost use Rattle.base_types.specs.Meanings.{datum_of, fact_of};
-ghost use Rattle.set_versions.specs.Ranks.{first_byte, behind_byte, word_rank as word_rank_def, number_rank as number_rank_def, null_rank as null_rank_def, value_rank as value_rank_def, rank_at as rank_at_def, rank_of};
+ghost use Rattle.set_versions.specs.Ranks.{first_byte, after_byte, word_rank as word_rank_def, number_rank as number_rank_def, null_rank as null_rank_def, value_rank as value_rank_def, rank_at as rank_at_def, rank_of};
 
 use base_types::{Null, Tuple, Value};
 
@@ -73,7 +73,7 @@ fn word_rank(bytes: &[u8]) -> u64
 fn next_byte(bytes: &[u8]) -> (u64, &[u8])
     ensures byte { result.0 ≡ first_byte bytes.now }
     ensures small { result.0 ≤ 255 }
-    ensures behind { result.1.now ≡ behind_byte bytes.now }
+    ensures rest { result.1.now ≡ after_byte bytes.now }
 {
     match bytes.split_first() {
         None => (0, bytes),

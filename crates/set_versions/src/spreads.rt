@@ -51,7 +51,8 @@ pub trait Spread: Share {
     /// Puts the marks at the cell on the shelf of the spot, or takes the cell out if the marks say that the tuple is nowhere.
     fn set(&mut self, alloc: Global, spot: u32, cell: Cell, marks: Marks) -> Result<(), Memory>
         ensures ok { OnOk result ((j : ℕ) → shelves self.new j ≡ cond (same j spot)
-            (set_entry (on cell_of cell_cmp) (shelves self.old j) cell marks) (shelves self.old j)) };
+            (set_entry (on cell_of cell_cmp) (shelves self.old j) cell marks)
+            (shelves self.old j)) };
 
     ghost same_itself: { (j : ℕ) → same j j ≡ true };
 }

@@ -54,7 +54,7 @@ impl Rest {
     }
 
     /// Notes that a plan came too late, and naps. The first such plan in a row costs no nap: the next one may well be in time.
-    pub(crate) fn behind<R: Wait>(&mut self, rt: &R)
+    pub(crate) fn late<R: Wait>(&mut self, rt: &R)
         ensures longer { self.new ≡ min (self.old + 1) 6 }
     {
         if self.vain > 0 {

@@ -42,7 +42,7 @@ pub fn work<B: Bench, G: Gate, R: Wait + Clock>(
         places.leave();
         match came? {
             Offer::Ticket(Received::InTime) => rest.end(),
-            Offer::Ticket(Received::Stale) => rest.behind(rt),
+            Offer::Ticket(Received::Stale) => rest.late(rt),
             Offer::Moved { more: _ } => rest.end(),
             Offer::Idle => rest.idle(rt),
             Offer::Quiet => return Ok(()),

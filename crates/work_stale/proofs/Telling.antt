@@ -7,7 +7,7 @@ use Rattle.std.proofs.lemmas.Option.{same_Some, none-some, option_and_then_some,
 use Rattle.def_machine.specs.Machine.{Machine, Laws}
 use Rattle.def_machine.specs.Updates.{Update, Session, Settings, Submission, hides, trail, below, committed}
 use Rattle.def_machine.specs.Standings.{is_held, lack}
-use Rattle.def_machine.specs.Cascade.{readers, has_number, anew}
+use Rattle.def_machine.specs.Cascade.{readers, has_number, begun_again}
 use Rattle.def_machine.specs.Steps.{next_move, stepped, step_writes}
 use Rattle.def_machine.specs.Effects.{Event, Admits, Steps, Delivers, Answers, Withdraws, Effect, causes_of_loss, causes_of_step, withdrawn_now, delivered, answered, step_effect, withdraw_effect, deliver_effect, answer_effect, admitted, admit_effect, may_step, may_deliver, may_answer, may_withdraw, effect}
 use Rattle.def_machine.specs.Histories.{Log, empty_log, with_entry, after, causes_in, IsLegal}
@@ -89,7 +89,7 @@ module _ (ms : List Rule) (B : ℕ) (some : 1 ≤ B) (s : Settings) (S : Session
         where
           by : (b : Bool) → names (suc k) ≡ b → (q : Bool) → (suc k == j) ≡ q → trail M v ≡ shown_after (suc k) (trail_by (suc k) H) d
           by true m q n =
-              let y : anew M (suc k) u.0 ≡ v = same_at k v (anew M (suc k) u.0) f (c.restarts k u.0 u.1 (as_causes (suc k) ∙ m)) in
+              let y : begun_again M (suc k) u.0 ≡ v = same_at k v (begun_again M (suc k) u.0) f (c.restarts k u.0 u.1 (as_causes (suc k) ∙ m)) in
               ap (trail M) (sym y)
               ∙ none_shown u.0.withdrawn (hides (M.outcome (M.begin (suc k) (suc u.0.attempt) u.0.operation))) (M.own (M.begin (suc k) (suc u.0.attempt) u.0.operation)) (L.begin_own (suc k) (suc u.0.attempt) u.0.operation)
               ∙ sym (if_true (has_number (taken_in d) (suc k)) [] (trail_by (suc k) H ++ shown_by (suc k) d) (has_join (lost_in d) (restarted_in d) (suc k) ∙ or_right (has_number (lost_in d) (suc k)) (names (suc k)) m))

@@ -113,7 +113,7 @@ impl Log {
     }
 
     /// Forgets the calls, but neither the number of failures nor the reason of the first.
-    pub(crate) fn begin_anew(&mut self)
+    pub(crate) fn begin_again(&mut self)
         ensures { self.new ≡ record { calls = []; faults = self.old.faults } }
     {
         self.calls.clear();

@@ -97,7 +97,7 @@ impl FileDisk {
         } = self;
         let base = base.checked_add(place as u64).ok_or(Memory)?;
         let made_of = bytes[place..].to_vec(alloc)?;
-        log.begin_anew();
+        log.begin_again();
         Ok(FileDisk {
             alloc,
             file,

@@ -23,14 +23,14 @@ pub fn make_beside(rt: &HostRuntime, path: &str) -> Result<(MadeFile, FileDisk),
     let alloc = rt.alloc();
     let pid = process::id(rt.process());
     let name = format!(in alloc; "{path}.{pid}.new")?;
-    let file = made_anew(rt, name.as_str()).map_err(OpenFault::Unwritable)?;
+    let file = made_new(rt, name.as_str()).map_err(OpenFault::Unwritable)?;
     file.lock().map_err(OpenFault::NotLocked)?;
     let disk = FileDisk::of(alloc, file, 0, Vec::new(alloc))?;
     Ok((MadeFile { name }, disk))
 }
 
 // Makes a new file of this name. A file that has the name loses it.
-fn made_anew(rt: &HostRuntime, name: &str) -> io::Result<File> {
+fn made_new(rt: &HostRuntime, name: &str) -> io::Result<File> {
     match fs::remove_file(rt, name) {
         Err(error) if error.kind() != ErrorKind::NotFound => Err(error),
         _ => File::create_new(rt, name),

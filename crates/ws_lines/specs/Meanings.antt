@@ -2,7 +2,7 @@
 use Rattle.std.specs.Prelude.{ℕ, List, map}
 use Rattle.base_types.specs.Meanings.{null_of, datum_of, fact_of, choice_of, rule_of}
 use Rattle.base_types.specs.declared.mappings.Mapping.{Mapping}
-use Rattle.def_workspace.specs.Lines.{Spelled, Known, New, SpelledFact, Deed, Inserts, Deletes, Fills, Swaps, Fixes, Forces, Drops, Update, Source, By, Fix, Anew, Asked, Given, Declared, Line, Says, Answers, Goes, Undoes, Redoes, Forgets, Declares}
+use Rattle.def_workspace.specs.Lines.{Spelled, Known, New, SpelledFact, Deed, Inserts, Deletes, Fills, Swaps, Fixes, Forces, Drops, Update, Source, By, Fix, Draw, Asked, Given, Declared, Line, Says, Answers, Goes, Undoes, Redoes, Forgets, Declares}
 use Rattle.ws_lines.specs.declared.spelled.Spelled.{Spelled as SpelledOfProgram}
 use Rattle.ws_lines.specs.declared.spelled.Spelled.TheVariants.{Known as KnownValue, New as NewUnknown}
 use Rattle.ws_lines.specs.declared.spelled.SpelledTuple.{SpelledTuple}
@@ -10,7 +10,7 @@ use Rattle.ws_lines.specs.declared.deeds.Deed.{Deed as DeedOfProgram}
 use Rattle.ws_lines.specs.declared.deeds.Deed.TheVariants.{Insert as InsertTuples, Delete as DeleteTuples, Fill as FillUnknown, Swap as SwapTuples, Fix as FixMapping, Force as ForceMapping, Drop as DropMapping}
 use Rattle.ws_lines.specs.declared.deeds.Update.{Update as UpdateOfProgram}
 use Rattle.ws_lines.specs.declared.answers.Source.{Source as SourceOfProgram}
-use Rattle.ws_lines.specs.declared.answers.Source.TheVariants.{By as ByMapping, Fix as ByFix, Anew as ByNone}
+use Rattle.ws_lines.specs.declared.answers.Source.TheVariants.{By as ByMapping, Fix as ByFix, Draw as ByNone}
 use Rattle.ws_lines.specs.declared.answers.Asked.{Asked as AskedOfProgram}
 use Rattle.ws_lines.specs.declared.answers.Given.{Given as GivenOfProgram}
 use Rattle.ws_lines.specs.declared.lines.Table.{Table}
@@ -38,7 +38,7 @@ update_of u = record { number = u.number; steps = u.steps; deed = deed_of u.deed
 abbrev pub source_of : SourceOfProgram → Source
 source_of (ByMapping m) = By m
 source_of (ByFix m) = Fix m
-source_of ByNone = Anew
+source_of ByNone = Draw
 
 abbrev pub asked_of : AskedOfProgram → Asked
 asked_of a = record { source = source_of a.source; tuples = map fact_of a.tuples.items }

@@ -12,7 +12,7 @@ use std::alloc::Global;
 pub enum Source {
     By(u16),
     Fix(u16),
-    Anew,
+    Draw,
 }
 
 /// Which question it is: its mapping, and by names its wanted tuple, or the tuples of which some must go.

@@ -37,7 +37,7 @@ fn is_same(one: Source, other: Source) -> bool
     match (one, other) {
         (Source::By(one), Source::By(other)) => one == other,
         (Source::Fix(one), Source::Fix(other)) => one == other,
-        (Source::Anew, Source::Anew) => true,
+        (Source::Draw, Source::Draw) => true,
         _ => false,
     }
 }

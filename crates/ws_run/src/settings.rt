@@ -25,7 +25,7 @@ impl<'a> Setting<'a> {
     pub fn source(&self, mapping: u16) -> Source {
         match self.sources.get(mapping as usize) {
             Some(source) => *source,
-            None => Source::Anew,
+            None => Source::Draw,
         }
     }
 }

@@ -2,9 +2,9 @@
 //! after it in a roll. A payload is `MARK LF TEXT`. MARK is the first 8 bytes of SHA-256 over the mark before and the text, as 16
 //! hexadecimal digits.
 //!
-//! So a change on the disk is reported, and changed texts are never read. There are two exceptions. A change of the gate before
-//! the last text looks like an append that was cut short. And two inputs of the digest may have one mark; it is trusted, not
-//! proved, that nobody finds them.
+//! A byte that was changed before the end of the last text is found, if it is not the gate before that text and no two inputs
+//! of the digest have one mark. A change of that gate looks like an append that was cut short. It is trusted, not proved, that
+//! nobody finds two such inputs. The marks have no key: other records that have marks made for them are not found.
 #![tactic(auto)]
 
 mod laws;

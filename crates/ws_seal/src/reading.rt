@@ -66,8 +66,8 @@ fn texts_after(
     texts: Vec<Vec<u8>>,
 ) -> Result<Texts, ReadFault>
     requires { start ≤ length bytes.now }
-    ensures { AfterTold (take start bytes.now) mark.digits (map (λ v. v.items) texts.items) bytes.now
-        result }
+    ensures { AfterTold (take start bytes.now) mark.digits (map (λ v. v.items) texts.items)
+        bytes.now result }
 {
     let (mut mark, mut texts, mut rest) = (mark, texts, &bytes[start..]);
     'records: loop {

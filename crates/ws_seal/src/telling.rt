@@ -33,7 +33,7 @@ pub fn append_and_tell<D: Disk + Drop, S: Sink>(
     reply: &[u8],
 ) -> Result<(), TellFault>
     requires hand { IsInHand (D.state log.old.disk) (record { gate = log.old.gate }) }
-    ensures told { OnOk result (Appends (S.taken sink.old) (S.taken sink.new) reply.now) }
+    ensures replied { OnOk result (Appends (S.taken sink.old) (S.taken sink.new) reply.now) }
     ensures lasts { (before m : List ℕ) (texts : List (List ℕ))
         → IsHeld before m texts (D.state log.old.disk) log.old.gate log.old.mark.digits
         → (S.taken sink.new ≡ S.taken sink.old)

@@ -39,7 +39,7 @@ impl Session {
             None => {
                 let wait = self.speaker.wait();
                 let opened = open(rt, self.speaker.settings.path.as_str(), access, wait)?;
-                self.keep_anew(opened);
+                self.begin_with(opened);
                 Ok(())
             }
         }
@@ -56,13 +56,13 @@ impl Session {
         match reopen(rt, resting, path, access, wait)? {
             Reopened::Same(opened) => self.file.keep(opened),
             Reopened::Another(opened) => {
-                self.keep_anew(opened);
+                self.begin_with(opened);
                 Ok(())
             }
         }
     }
 
-    fn keep_anew(&mut self, opened: Opened) {
+    fn begin_with(&mut self, opened: Opened) {
         drop(self.space.take());
         let Opened { log, texts } = opened;
         self.file.texts = texts;

@@ -190,7 +190,7 @@ fn drawn_said(
 
 fn variable_said(alloc: Global, head: &Numbered, cause: &Cause) -> Result<String, Memory> {
     match cause.source {
-        Source::Anew => Ok(String::from_str(alloc, "u")?),
+        Source::Draw => Ok(String::from_str(alloc, "u")?),
         Source::By(mapping) => match head.mappings.get(usize::from(mapping)) {
             Some(mapping) => variable_name(alloc, mapping, cause.variable),
             None => Ok(String::new(alloc)),
@@ -214,7 +214,7 @@ fn variable_name(alloc: Global, mapping: &Mapping, variable: u16) -> Result<Stri
 
 fn image_said(alloc: Global, cause: &Cause) -> Result<Image, Memory> {
     Ok(match cause.source {
-        Source::Anew => Image::New(wanted(&cause.image)),
+        Source::Draw => Image::New(wanted(&cause.image)),
         Source::By(_) => Image::Facts(said_facts(alloc, cause.image.as_slice())?),
         Source::Fix(_) => Image::Facts(Vec::new(alloc)),
     })

@@ -20,7 +20,7 @@ pub(crate) fn number_of(rules: &[Rule], name: &str) -> Option<u16> {
 /// The source with this name: `_new`, `_fix_m`, or a mapping's name. None if no mapping has the name.
 pub(crate) fn source_of(rules: &[Rule], name: &str) -> Option<Source> {
     if name == "_new" {
-        return Some(Source::Anew);
+        return Some(Source::Draw);
     }
     if let Some(fixed) = name.strip_prefix("_fix_") {
         return Some(Source::Fix(number_of(rules, fixed)?));
@@ -39,7 +39,7 @@ pub(crate) fn name_of(rules: &[Rule], mapping: u16) -> &str {
 /// The name of a source: `_new`, `_fix_m`, or a mapping's name.
 pub(crate) fn called(alloc: Global, rules: &[Rule], source: Source) -> Result<String, Memory> {
     Ok(match source {
-        Source::Anew => String::from_str(alloc, "_new")?,
+        Source::Draw => String::from_str(alloc, "_new")?,
         Source::By(mapping) => String::from_str(alloc, name_of(rules, mapping))?,
         Source::Fix(mapping) => {
             let mut name = Text::from_str(alloc, "_fix_");
@@ -61,7 +61,7 @@ impl Space {
         match source {
             Source::By(mapping) => Some(mapping),
             Source::Fix(mapping) => Some(mapping),
-            Source::Anew => None,
+            Source::Draw => None,
         }
     }
 }

@@ -117,7 +117,7 @@ fn variable_of(
 ) -> Result<Option<u16>, Memory> {
     let wanted = bytes_of(alloc, name)?;
     Ok(match source {
-        Source::Anew => Some(1),
+        Source::Draw => Some(1),
         Source::By(mapping) => match mappings.get(usize::from(mapping)) {
             Some(mapping) => number_among(&mapping.names, &wanted),
             None => None,

@@ -35,7 +35,7 @@ pub(crate) fn active_for(
         }
     }
     if news_of(deed) > 0 {
-        active.add(Source::Anew, drawing_mapping(alloc)?)?;
+        active.add(Source::Draw, drawing_mapping(alloc)?)?;
     }
     if let Some((number, mapping)) = fixed(declared, deed) {
         active.add(Source::Fix(number), fixing_mapping(alloc, mapping)?)?;

@@ -140,7 +140,7 @@ fn new_source(numbers: &List<u16>, source: Source) -> Option<Source> {
     match source {
         Source::By(mapping) => Some(Source::By(new_number(numbers, mapping)?)),
         Source::Fix(mapping) => Some(Source::Fix(new_number(numbers, mapping)?)),
-        Source::Anew => Some(Source::Anew),
+        Source::Draw => Some(Source::Draw),
     }
 }
 

@@ -1,6 +1,7 @@
 //! The state that a workspace's log stands for, built line by line.
 //!
-//! `State` takes one line after the other, does what `def_workspace` says of it, and reports what changed. After an `Err`, which
+//! `State` takes one line after the other and reports what changed. The clauses of its methods say what a line keeps, and what
+//! can be taken back. That the state is what `def_workspace` says of the lines is tested, not proved. After an `Err`, which
 //! means want of memory, the state is of no use and has to be opened again.
 #![tactic(auto)]
 

@@ -13,7 +13,7 @@ pub(crate) fn by_of(by: &BTreeMap<Tuple, Source>, tuple: &Tuple) -> Option<u16> 
     match by.get(tuple) {
         Some(Source::By(mapping)) => Some(*mapping),
         Some(Source::Fix(mapping)) => Some(*mapping),
-        Some(Source::Anew) => None,
+        Some(Source::Draw) => None,
         None => None,
     }
 }

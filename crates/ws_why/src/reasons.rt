@@ -166,6 +166,6 @@ fn mapping_of(source: Source) -> u16 {
     match source {
         Source::By(mapping) => mapping,
         Source::Fix(mapping) => mapping,
-        Source::Anew => u16::MAX,
+        Source::Draw => u16::MAX,
     }
 }

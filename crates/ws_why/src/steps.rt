@@ -92,7 +92,7 @@ pub(crate) fn origin_by(alloc: Global, made: Made<'_>, tuple: &Tuple) -> Result<
     match &made.step.note.way {
         Way::Inserts => Ok(Origin::Inserted),
         Way::Generates { image, .. } => {
-            let source = made.step.source.unwrap_or(Source::Anew);
+            let source = made.step.source.unwrap_or(Source::Draw);
             match source {
                 Source::Fix(_) => Ok(Origin::Generated(source, made.standing.image.copy(alloc)?)),
                 _ => Ok(Origin::Generated(source, image.copy(alloc)?)),

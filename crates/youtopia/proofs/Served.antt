@@ -3,7 +3,7 @@ use Rattle.std.proofs.Common.{◌≡◌, ◌⊎◌, ℕ, List, Option, Some, Non
 use Rattle.clap.specs.Words.{Text as Letters}
 use Rattle.run_ask.specs.Bound.{bound_ask}
 use Rattle.cmd_plain.specs.Audited.{IsAudited, IsAuditedUnless, auditing, verdict_output}
-use Rattle.audit_claims.specs.Parts.{behind_session, session_in}
+use Rattle.audit_claims.specs.Parts.{after_session, session_in}
 use Rattle.run_ask.specs.Certain.{ConjunctiveQuery}
 use Rattle.cmd_frame.specs.Devices.{Change}
 use Rattle.cmd_frame.specs.Outputs.{OutputView}
@@ -101,7 +101,7 @@ auditing_ends : (o : Options) (input : List ℕ) (s : SessionData) (x : OutputVi
 auditing_ends o input s x spelled met made =
     let n = o.steps in
     let c = settings_in o in
-    let rest = behind_session input in
+    let rest = after_session input in
     let its : auditing n c rest s x = subst (λ (r : Result SessionData Wrong). MadeOf (auditing n c rest) r x) spelled made in
     audited_ends n c s rest x (subst (λ (v : Option Violated). IsAuditedUnless v n c s rest x) met its)
 

@@ -20,7 +20,7 @@ struct Script {
     is_terminal: bool,
     goes_on: bool,
     number: u64,
-    behind: u64,
+    following: u64,
     worst: Option<Status>,
     waited: bool,
 }
@@ -45,7 +45,7 @@ pub fn run_script(
         is_terminal: rt.stdin().is_terminal(),
         goes_on: work.keep_going,
         number: 0,
-        behind: 0,
+        following: 0,
         worst: None,
         waited: false,
     };
@@ -79,8 +79,8 @@ impl Script {
         if raw.is_empty() {
             return Ok(Next::End);
         }
-        self.number = self.number.saturating_add(self.behind).saturating_add(1);
-        self.behind = 0;
+        self.number = self.number.saturating_add(self.following).saturating_add(1);
+        self.following = 0;
         let raw = self.without_mark(raw.as_slice());
         match self.fed(rt.alloc(), input, raw)? {
             Ok(fed) => self.done(rt, time, session, raw, fed.as_ref()),
@@ -119,7 +119,7 @@ impl Script {
         }
         match input.lines(alloc, count) {
             Ok(fed) => {
-                self.behind = fed.lines;
+                self.following = fed.lines;
                 Ok(Ok(Some(fed)))
             }
             Err(error) => Ok(Err(error)),

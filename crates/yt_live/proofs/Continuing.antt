@@ -1,4 +1,4 @@
--- What is due behind some bytes that were taken and some replies, and how it ends.
+-- What is due after some bytes that were taken and some replies, and how it ends.
 use Rattle.std.proofs.Common.{◌≡◌, ℕ, ◌+◌, ◌≤◌, List, [], ◌∷◌, ◌++◌, length, refl, sym, ap, subst, ◌∙◌, arith}
 use Rattle.std.specs.Prelude.{Option}
 use Rattle.std.specs.Io.KnownBytes.{Appends, Consumes}
@@ -13,18 +13,18 @@ use Rattle.yt_live.specs.Streams.{CutsLines, Ending, Served, whole_lines, with_f
 use Rattle.yt_live.specs.declared.ends.LiveEnd.{LiveEnd}
 use Rattle.yt_live.specs.declared.ends.LiveEnd.TheVariants as ends
 use Rattle.yt_live.proofs.Cutting.{cuts_all, cuts_whole}
-use Rattle.yt_live.proofs.Prefixes.{takes_behind}
+use Rattle.yt_live.proofs.Prefixes.{takes_after}
 
--- Behind the bytes that were taken, and behind these replies, what is due goes on so.
+-- After the bytes that were taken, and after these replies, what is due goes on so.
 pub record Continues (a b : Due) (took told : List ℕ) : Type 0 where
   pub at_end : (more : List ℕ) → a.at_end (took ++ more) ≡ with_front told (b.at_end more)
   pub so_far : (more : List ℕ) → a.so_far (took ++ more) ≡ with_front told (b.so_far more)
 
 -- lines of commands go on so where they do however the bytes are cut
-pub lines_continue : (S T : List (List ℕ) → Served) (front behind took told : List ℕ)
-    → ((cut : List ℕ → List (List ℕ)) → CutsLines cut → (more : List ℕ) → S (cut (front ++ (took ++ more))) ≡ with_front told (T (cut (behind ++ more))))
-    → Continues (of_lines S front) (of_lines T behind) took told
-lines_continue S T front behind took told so = record { at_end = so lines_of cuts_all; so_far = so whole_lines cuts_whole }
+pub lines_continue : (S T : List (List ℕ) → Served) (front after took told : List ℕ)
+    → ((cut : List ℕ → List (List ℕ)) → CutsLines cut → (more : List ℕ) → S (cut (front ++ (took ++ more))) ≡ with_front told (T (cut (after ++ more))))
+    → Continues (of_lines S front) (of_lines T after) took told
+lines_continue S T front after took told so = record { at_end = so lines_of cuts_all; so_far = so whole_lines cuts_whole }
 
 -- two fronts are one
 front_twice : (one two : List ℕ) (s : Served) → with_front one (with_front two s) ≡ with_front (one ++ two) s
@@ -66,7 +66,7 @@ module _ (a b : Due) (took told : List ℕ) (room room' : ℕ) (source out : Cha
   prefix more h =
       let rest = left_of source.bytes_after in
       let same : a.at_end ((took ++ more) ++ rest) ≡ with_front told (b.at_end (more ++ rest)) = ap a.at_end (append_assoc took more rest) ∙ c.at_end (more ++ rest) in
-      subst (λ (s : Served). TakesPrefix out.bytes out.bytes_after s.replies) (sym same) (takes_behind out.bytes tmid out.bytes_after told (b.at_end (more ++ rest)).replies wrote h)
+      subst (λ (s : Served). TakesPrefix out.bytes out.bytes_after s.replies) (sym same) (takes_after out.bytes tmid out.bytes_after told (b.at_end (more ++ rest)).replies wrote h)
 
   pub ends_since : (e : LiveEnd) → Ends b room' e (since mid reads source) (since tmid writes out) → Ends a room e source out
   ends_since ends.Ended x = gave _ _ ended x

@@ -28,7 +28,7 @@ lone_line line one = slice_split_none is_line_feed line one
 pub no_whole : (line : List ℕ) → HasNoLineFeed line → whole_lines line ≡ []
 no_whole line one = ap (λ (ls : List (List ℕ)). take (length ls - 1) ls) (lone_line line one)
 
--- What was kept and what is taken are a line and what is kept then; whatever follows stands behind the line.
+-- What was kept and what is taken are a line and what is kept then; whatever follows stands after the line.
 pub next_bytes : (kept took line after rest : List ℕ) → kept ++ took ≡ (line ++ 10 ∷ []) ++ after → kept ++ (took ++ rest) ≡ line ++ 10 ∷ (after ++ rest)
 next_bytes kept took line after rest same =
     sym (append_assoc kept took rest) ∙ (ap (λ l. l ++ rest) same

@@ -62,9 +62,9 @@ module _ (left mid right : Option (List ℕ)) (before kept after : Kept) (text :
     room : after.room + length (o.took ++ g.took) ≡ before.room
     room = omega (arith, length-append o.took g.took, o.room, g.room)
 
-    -- what follows is parted behind the line
-    behind : (cut : List ℕ → List (List ℕ)) → CutsLines cut → (more : List ℕ) → parted (cut ((o.took ++ g.took) ++ more)) ≡ option_map (prefixed text) (parted (line.items ∷ cut (after.bytes ++ more)))
-    behind cut cuts more =
+    -- what follows is parted after the line
+    further : (cut : List ℕ → List (List ℕ)) → CutsLines cut → (more : List ℕ) → parted (cut ((o.took ++ g.took) ++ more)) ≡ option_map (prefixed text) (parted (line.items ∷ cut (after.bytes ++ more)))
+    further cut cuts more =
         ap (λ l. parted (cut l)) (append_assoc o.took g.took more) ∙ (o.parts cut cuts (g.took ++ more)
         ∙ ap (λ (ls : List (List ℕ)). option_map (prefixed text) (parted ls)) (next_line cut cuts kept.bytes g.took line.items after.bytes more one g.same))
 
@@ -77,7 +77,7 @@ module _ (left mid right : Option (List ℕ)) (before kept after : Kept) (text :
       room = room;
       parts = λ cut cuts more.
           let next : parted (line.items ∷ cut (after.bytes ++ more)) ≡ option_map (with_line line.items) (parted (cut (after.bytes ++ more))) = rw other refl in
-          behind cut cuts more ∙ (ap (λ (p : Option Parted). option_map (prefixed text) p) next ∙ front_line text line.items (parted (cut (after.bytes ++ more))));
+          further cut cuts more ∙ (ap (λ (p : Option Parted). option_map (prefixed text) p) next ∙ front_line text line.items (parted (cut (after.bytes ++ more))));
     }
 
     -- it is `end`
@@ -88,7 +88,7 @@ module _ (left mid right : Option (List ℕ)) (before kept after : Kept) (text :
       room = room;
       parts = λ cut cuts more.
           let next : parted (line.items ∷ cut (after.bytes ++ more)) ≡ Some (record { text = line.items ++ 10 ∷ []; commands = cut (after.bytes ++ more) }) = rw end refl in
-          behind cut cuts more ∙ ap (λ (p : Option Parted). option_map (prefixed text) p) next;
+          further cut cuts more ∙ ap (λ (p : Option Parted). option_map (prefixed text) p) next;
       short = omega (arith, ap (λ l. length l) (joined g.took (line.items ++ 10 ∷ []) g.same), length-append (text ++ (line.items ++ 10 ∷ [])) after.bytes, room, limit);
     }
 

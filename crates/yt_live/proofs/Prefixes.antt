@@ -6,11 +6,11 @@ use Rattle.std.proofs.KnownBytes.{Appends-trans}
 use Rattle.base_devices.specs.Writing.{TakesPrefix}
 
 -- the front, and then some of what follows
-take_behind : (front ys : List ℕ) (k : ℕ) → take (length front + k) (front ++ ys) ≡ front ++ take k ys
-take_behind [] ys k = ap (λ n. take n ys) (let z : 0 + k ≡ k = omega arith in z)
-take_behind (x ∷ front) ys k =
+take_after : (front ys : List ℕ) (k : ℕ) → take (length front + k) (front ++ ys) ≡ front ++ take k ys
+take_after [] ys k = ap (λ n. take n ys) (let z : 0 + k ≡ k = omega arith in z)
+take_after (x ∷ front) ys k =
     ap (λ n. take n (x ∷ front ++ ys)) (let z : suc (length front) + k ≡ suc (length front + k) = omega arith in z)
-    ∙ ap (λ l. x ∷ l) (take_behind front ys k)
+    ∙ ap (λ l. x ∷ l) (take_after front ys k)
 
 -- a prefix of the reply is one of the reply and more
 take_less : (reply rest : List ℕ) (count : ℕ) → (k : ℕ) × (take count reply ≡ take k (reply ++ rest))
@@ -21,9 +21,9 @@ take_less (x ∷ reply) rest (suc count) =
     (suc shorter.0, ap (λ l. x ∷ l) shorter.1)
 
 -- after the front the sink took a prefix, so it took one of all
-pub takes_behind : (a b c : Option (List ℕ)) (front bytes : List ℕ) → Appends a b front → TakesPrefix b c bytes → TakesPrefix a c (front ++ bytes)
-takes_behind a b c front bytes first next =
-    (length front + next.0, subst (Appends a c) (sym (take_behind front bytes next.0)) (Appends-trans a b c front (take next.0 bytes) first next.1))
+pub takes_after : (a b c : Option (List ℕ)) (front bytes : List ℕ) → Appends a b front → TakesPrefix b c bytes → TakesPrefix a c (front ++ bytes)
+takes_after a b c front bytes first next =
+    (length front + next.0, subst (Appends a c) (sym (take_after front bytes next.0)) (Appends-trans a b c front (take next.0 bytes) first next.1))
 
 -- it took a prefix of the reply
 pub takes_less : (a b : Option (List ℕ)) (reply rest : List ℕ) → TakesPrefix a b reply → TakesPrefix a b (reply ++ rest)

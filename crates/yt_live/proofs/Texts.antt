@@ -1,4 +1,4 @@
--- The session of the text at the front, and the stream with what is served behind it.
+-- The session of the text at the front, and the stream with what is served after it.
 use Rattle.std.proofs.Common.{◌≡◌, ℕ, ◌+◌, ◌≤◌, Bool, true, false, List, [], ◌∷◌, ◌++◌, length, refl, sym, ap, subst, ◌∙◌, arith, append-nil}
 use Rattle.std.specs.Prelude.{Option, Some, None, Result, Ok, Err, map, OnOk, IfErr}
 use Rattle.std.specs.Io.KnownBytes.{Appends, Consumes, IsAtEnd}
@@ -112,7 +112,7 @@ opened_more left left' before after o h more = subst (λ (b : Bool). Opened b le
 pub opened_whole : (left left' : Option (List ℕ)) (before after : Kept) (o : Opening) → Opens left left' before after o → o.more ≡ false → HasReadAll left left' o.text.items
 opened_whole left left' before after o h more = subst (λ (b : Bool). Opened b left left' before after o.text.items) more h
 
--- with lines of commands behind the session
+-- with lines of commands after the session
 pub serves_text : (budget : ℕ) (c : Settings) (text : List ℕ) (before kept : Kept) (e : LiveEnd) (source out : Change) (mid : Option (List ℕ)) (reads : ℕ) → before.room ≡ INPUT_LIMIT → HasOpened source.bytes mid before kept text → source.faults ≤ reads
     → Ends (of_lines (opened_with budget c (read text)) kept.bytes) kept.room e (since mid reads source) out → Serves budget c e source out
 serves_text budget c text before kept e source out mid reads limit o later x =

@@ -24,7 +24,7 @@ use Rattle.yt_live.proofs.Continuing.{Continues, continues_on, ends_since, lines
 use Rattle.yt_live.proofs.Cutting.{cuts_all, lone_line, next_line, no_whole}
 use Rattle.yt_live.proofs.Prefixes.{keeps_all, takes_less, takes_none}
 
--- what is due to lines of commands behind what is kept
+-- what is due to lines of commands after what is kept
 abbrev pub to_lines : Live → Kept → Due
 to_lines L kept = of_lines (served L) kept.bytes
 
@@ -52,7 +52,7 @@ pub none_left : (left : Option (List ℕ)) → IsAtEnd left → left_of left ≡
 none_left None end = refl
 none_left (Some bytes) end = end
 
--- what is left behind what was taken, of which a prefix of the reply to the next line is written
+-- what is left after what was taken, of which a prefix of the reply to the next line is written
 pub cut_short : (due : Due) (room : ℕ) (e : LiveEnd) (source out : Change) (took reply rest : List ℕ) → Consumes source.bytes source.bytes_after took → length took ≤ room
     → (due.at_end (took ++ left_of source.bytes_after)).replies ≡ reply ++ rest → FailsReply reply out e → Ends due room e source out
 cut_short due room ends.WriteFault source out took reply rest taken few same f =
@@ -181,7 +181,7 @@ before_lines L left taken kept = record {
   continues = record { at_end = λ more. refl; so_far = λ more. refl };
 }
 
--- a line was served behind which further ones may follow
+-- a line was served, and further ones may follow
 pub serves_on : (L0 L next : Live) (left mid right taken : Option (List ℕ)) (before kept after : Kept) (line : Vec ℕ Global) (g : HasGiven mid right kept after (Whole line)) (out : Change) → IsLine (Whole line)
     → IsServing L0 L left mid taken out.bytes before kept → HasReplied (line_turn L line.items) out next true → IsServing L0 next left right taken out.bytes_after before after
 serves_on L0 L next left mid right taken before kept after line g out one v r = record {

@@ -137,7 +137,7 @@ function drawState() {
   document.body.classList.toggle('off', !link.up);
   if (link.up && link.waited > STUCK) {
     const words = make('b', null, `yt has not replied for ${Math.floor(link.waited)} seconds. `);
-    banner(words, 'It may be busy with something large. ', button('Connect anew', () => link.reopen(), 'anew'));
+    banner(words, 'It may be busy with something large. ', button('Connect again', () => link.reopen(), 'again'));
   }
 }
 

@@ -53,7 +53,7 @@ def words_of(argv):
             opts[k] = v
         elif w.startswith("-") and w != "-":
             raise T.Fault("there is no option %s" % w, None, T.mean(w, ["--json", "--as", "--wait", "--keep-going", "--no-files",
-                                                                      "--help", "--version"]) or "options of a command stand behind it")
+                                                                      "--help", "--version"]) or "options of a command stand after it")
         elif path is None:
             path = w
         else:
@@ -150,7 +150,7 @@ def main(argv):
         reply = ws.command(command, data)
         return give(reply, None) if reply else 0
     terminal = sys.stdin.isatty()
-    worst, number, behind, asked = 0, 0, 0, False
+    worst, number, after, asked = 0, 0, 0, False
     while True:
         if terminal:
             out.write(b"yt> ")
@@ -161,15 +161,15 @@ def main(argv):
             return unread(e)
         if not raw:
             break
-        number += behind + 1
-        data, behind = None, 0
+        number += after + 1
+        data, after = None, 0
         count = T.lines_of(raw.decode("utf-8", "replace").lstrip("\ufeff"))
         if count:
             try:
                 data = next_lines(count)
             except OSError as e:
                 return unread(e)
-            behind = data[1]
+            after = data[1]
         try:
             line = raw.decode().rstrip("\n")
         except UnicodeDecodeError as e:

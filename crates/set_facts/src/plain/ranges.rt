@@ -111,14 +111,14 @@ impl PlainFacts {
     pub(crate) fn lacks(&self, relation: u16) -> bool
         ensures none { IsTrue result → list_any (is_of relation) self.now ≡ false }
     {
-        if self.begins_behind(relation) {
+        if self.begins_after(relation) {
             return true;
         }
         self.ends_before(relation)
     }
 
     // Whether the set begins after the relation: it is empty, or its first tuple is of a greater relation.
-    fn begins_behind(&self, relation: u16) -> bool
+    fn begins_after(&self, relation: u16) -> bool
         ensures none { IsTrue result → list_any (is_of relation) self.now ≡ false }
     {
         match self.tuples.first() {

@@ -5,7 +5,7 @@ use Rattle.std.proofs.lemmas.Bool.Decides.{Decides-eqb}
 use Rattle.std.proofs.lemmas.Slice.Eq.{ends_is, strip_prefix_is}
 use Rattle.std.specs.Cmp.Lexicographic.{pointwise}
 use Rattle.audit_claims.specs.Forms.{HasLines, HasNoLines, IsCounted, counted, ended}
-use Rattle.audit_claims.proofs.Counted.{counted_apart, counted_ends, feeds, feeds_counted, feeds_lines, feeds_past, lines_behind}
+use Rattle.audit_claims.proofs.Counted.{counted_apart, counted_ends, feeds, feeds_counted, feeds_lines, feeds_past, lines_at_end}
 use Rattle.audit_claims.proofs.forms.counted_lines.Goals as goal
 
 pub returns-then-not-ends_with-clause-none : goal.returns-then-not-ends_with-clause-none
@@ -24,7 +24,7 @@ lines_found : (text : List ℕ) (n : ℕ) (found : Option (Bor (List ℕ))) → 
     → IfSome found (λ rest. (lines : List (List ℕ)) × IsCounted text rest.now lines)
 lines_found text n None many low front ends cases = tt
 lines_found text n (Some rest) many low front ends cases =
-    let it = lines_behind (counted n []) rest.now front (sym cases ∙ ends) in
+    let it = lines_at_end (counted n []) rest.now front (sym cases ∙ ends) in
     let head : text ≡ counted n rest.now = cases ∙ counted_apart n rest.now in
     let all : feeds text ≡ suc (feeds rest.now) = ap feeds head ∙ feeds_counted n rest.now low in
     let same : n ≡ length it.lines = omega (arith, all, many, it.count) in

@@ -1,5 +1,5 @@
 use Rattle.std.proofs.lemmas.List.{take_rest}
-use Rattle.audit_claims.proofs.Lined.{behind_found, session_found}
+use Rattle.audit_claims.proofs.Lined.{after_found, session_found}
 use Rattle.audit_claims.proofs.parts.session_part.Goals as goal
 
 pub returns-clause-session : goal.returns-clause-session
@@ -7,7 +7,7 @@ returns-clause-session c =
     let next = rw take_rest at c.line_end.ensures.line in
     session_found c.args.input.now c.place_of-place.result c.line_end.result c.place_of-place.ensures.before c.place_of-place.ensures.from next
 
-pub returns-clause-behind : goal.returns-clause-behind
-returns-clause-behind c =
+pub returns-clause-rest : goal.returns-clause-rest
+returns-clause-rest c =
     let next = rw take_rest at c.line_end.ensures.line in
-    rw take_rest (behind_found c.args.input.now c.place_of-place.result c.line_end.result c.place_of-place.ensures.from next)
+    rw take_rest (after_found c.args.input.now c.place_of-place.result c.line_end.result c.place_of-place.ensures.from next)

@@ -1,7 +1,7 @@
 use Rattle.std.proofs.Common.{◌<◌, length, arith}
 use Rattle.std.proofs.Common.{◌∙◌}
 use Rattle.audit_replay.specs.Causes.{readers_in}
-use Rattle.audit_replay.proofs.Restarting.{more_there, more_behind, put_with, turned, all_turned, same_place}
+use Rattle.audit_replay.proofs.Restarting.{more_there, more_after, put_with, turned, all_turned, same_place}
 use Rattle.set_facts.proofs.Groups.{held_err}
 use Rattle.audit_replay.proofs.restarts.restart_named.Goals as goal
 
@@ -19,7 +19,7 @@ loop-place-preserved c =
     let l : k < length rs = omega arith in
     record {
       numbers = put_with rs k r v c.loop-place.invariant.numbers l c.index-updates-place.is c.in_ok-restart_if_named.ensures.place;
-      more = more_behind rs k r v l c.index-updates-place.is c.loop-place.invariant.more;
+      more = more_after rs k r v l c.index-updates-place.is c.loop-place.invariant.more;
       left = λ ms B. turned ms B rs k r v c.args.causes.now.items c.loop-place.invariant.numbers l c.index-updates-place.is c.in_ok-restart_if_named.ensures.restarted ∙ c.loop-place.invariant.left ms B;
     }
 

@@ -1,6 +1,6 @@
 use Rattle.std.proofs.Common.{arith}
 use Rattle.audit_replay.proofs.Placing.{numbers_stepped, step_made}
-use Rattle.audit_replay.proofs.Restarting.{more_above, more_behind, set_long, put_with, same_place}
+use Rattle.audit_replay.proofs.Restarting.{more_above, more_after, set_long, put_with, same_place}
 use Rattle.set_facts.proofs.Groups.{held_err}
 use Rattle.audit_replay.proofs.stepping.make_step.Goals as goal
 
@@ -14,7 +14,7 @@ restart_named-requires c =
     record {
       place = omega (arith, long, c.requires.within);
       numbers = numbers_stepped rs k r v c.args.plan c.requires.numbers c.requires.within c.index-updates-place.is c.requires.planned c.in_ok-step.ensures.place;
-      more = more_behind rs k r v c.requires.within c.index-updates-place.is (more_above rs k c.requires.more);
+      more = more_after rs k r v c.requires.within c.index-updates-place.is (more_above rs k c.requires.more);
     }
 
 pub returns-clause-made : goal.returns-clause-made

@@ -1,6 +1,6 @@
 use Rattle.std.proofs.Common.{arith}
 use Rattle.audit_replay.proofs.Placing.{removal_made}
-use Rattle.audit_replay.proofs.Restarting.{more_above, more_behind, put_with, set_long}
+use Rattle.audit_replay.proofs.Restarting.{more_above, more_after, put_with, set_long}
 use Rattle.audit_replay.proofs.withdrawing.make_withdrawal.Goals as goal
 
 pub restart_named-requires : goal.restart_named-requires
@@ -13,7 +13,7 @@ restart_named-requires c =
     record {
       place = omega (arith, long, c.requires.within);
       numbers = put_with rs k r v c.requires.numbers c.requires.within c.index-updates-place.is c.withdraw.ensures.place;
-      more = more_behind rs k r v c.requires.within c.index-updates-place.is (more_above rs k c.requires.more);
+      more = more_after rs k r v c.requires.within c.index-updates-place.is (more_above rs k c.requires.more);
     }
 
 pub returns-clause-made : goal.returns-clause-made

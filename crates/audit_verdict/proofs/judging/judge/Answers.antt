@@ -3,13 +3,13 @@ use Rattle.std.proofs.Common.{ap, subst, arith}
 use Rattle.std.proofs.lemmas.List.{length-append}
 use Rattle.audit_verdict.specs.Judging.{AfterLine}
 use Rattle.audit_verdict.specs.Verdicts.{verdict_of}
-use Rattle.audit_verdict.proofs.Judged.{ended_so, faulty, goes_behind}
+use Rattle.audit_verdict.proofs.Judged.{ended_so, faulty, next_made}
 use Rattle.audit_verdict.proofs.judging.judge.Goals as goal
 
 pub returns-in-Some-2 : goal.returns-in-Some-2
 returns-in-Some-2 c = record {
   verdict = λ t lines same stands of.
-      faulty t lines c.loop-line.rest.now c.loop-line.entries c.loop-line.replay (c.loop-line.invariant.goes_on t lines same stands of) c.in-Some.line.now c.in-Some.behind.now
+      faulty t lines c.loop-line.rest.now c.loop-line.entries c.loop-line.replay (c.loop-line.invariant.goes_on t lines same stands of) c.in-Some.line.now c.in-Some.after.now
       c.in-Some.ensures.first c.in-Some.ensures.single c.fault_in.new.replay c.in-Some-2.why
       (λ before st. subst (AfterLine t before c.in-Some.line.now c.fault_in.new.replay) c.in-Some-2.is (c.in_ok-why.ensures.judged t before same st));
 }
@@ -19,9 +19,9 @@ loop-line-preserved c =
     let first = ap length c.in-Some.ensures.first in
     record {
       replay = c.in_ok-why.ensures.replay;
-      few = omega (arith, c.loop-line.invariant.few, first, length-append c.in-Some.line.now (10 ∷ c.in-Some.behind.now));
+      few = omega (arith, c.loop-line.invariant.few, first, length-append c.in-Some.line.now (10 ∷ c.in-Some.after.now));
       goes_on = λ t lines same stands of.
-          goes_behind t lines c.loop-line.rest.now c.loop-line.entries c.loop-line.replay (c.loop-line.invariant.goes_on t lines same stands of) c.in-Some.line.now c.in-Some.behind.now
+          next_made t lines c.loop-line.rest.now c.loop-line.entries c.loop-line.replay (c.loop-line.invariant.goes_on t lines same stands of) c.in-Some.line.now c.in-Some.after.now
           c.in-Some.ensures.first c.in-Some.ensures.single c.fault_in.new.replay
           (λ before st. subst (AfterLine t before c.in-Some.line.now c.fault_in.new.replay) c.in_default-2.is (c.in_ok-why.ensures.judged t before same st));
     }

@@ -4,14 +4,14 @@ use Rattle.audit_claims.specs.Forms.{IsOf}
 use Rattle.audit_replay.specs.Replays.{IsReplay}
 use Rattle.audit_verdict.specs.Judging.{Stands}
 use Rattle.audit_claims.specs.Verdicts.{Trial}
-use Rattle.audit_verdict.proofs.Judged.{Behind}
+use Rattle.audit_verdict.proofs.Judged.{AreLeft}
 use Rattle.audit_verdict.proofs.judging.judge.Given as goal
 
 abbrev pub invariant-loop-line : goal.invariant-loop-line
 invariant-loop-line l = record {
   replay : IsReplay l.replay;
   few : l.entries + length l.rest ≤ length l.lines;
-  goes_on : (t : Trial) (lines : List (List ℕ)) → t.relations ≡ l.schema → Stands t [] l.initial.replay → IsOf l.lines lines → Behind t lines l.rest l.entries l.replay;
+  goes_on : (t : Trial) (lines : List (List ℕ)) → t.relations ≡ l.schema → Stands t [] l.initial.replay → IsOf l.lines lines → AreLeft t lines l.rest l.entries l.replay;
 }
 
 abbrev pub decreases-loop-line : goal.decreases-loop-line

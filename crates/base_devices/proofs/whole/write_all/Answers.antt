@@ -1,4 +1,4 @@
--- A put takes the front of the bytes behind `at`, so what was taken stays a prefix.
+-- A put takes the front of the bytes from `at` on, so what was taken stays a prefix.
 use Rattle.std.proofs.Common.{subst, arith}
 use Rattle.std.specs.Io.KnownBytes.{Appends}
 use Rattle.std.proofs.KnownBytes.{Appends-trans}

@@ -15,4 +15,4 @@ pub returns-clause-made : goal.returns-clause-made
 returns-clause-made c =
     answers_to (settings_of c.args.settings) c.args.place c.args.choice c.args.queue.now c.index-queue-place.result c.answer.new.self c.args.history.now.items c.put_last.new.history.items c.answer_entry-entry.result
     c.requires.place c.index-queue-place.is c.answer.ensures.answered c.answer.ensures.place
-    (subst (λ (x : Choice). TellsAnswer (settings_of c.args.settings) c.args.place x (set c.args.queue.now c.args.place c.answer.new.self) c.answer_entry-entry.result) c.requires.told c.answer_entry-entry.ensures.told) c.put_last.ensures.all
+    (subst (λ (x : Choice). TellsAnswer (settings_of c.args.settings) c.args.place x (set c.args.queue.now c.args.place c.answer.new.self) c.answer_entry-entry.result) c.requires.copied c.answer_entry-entry.ensures.told) c.put_last.ensures.all

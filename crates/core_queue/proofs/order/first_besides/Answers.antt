@@ -3,7 +3,7 @@ use Rattle.core_queue.specs.Settings.{settings_of}
 use Rattle.core_queue.specs.Queues.{AreFrom}
 use Rattle.core_queue.specs.Order.{IsFirstBesides}
 use Rattle.core_queue.specs.declared.updates.QueuedUpdate.{QueuedUpdate}
-use Rattle.core_queue.proofs.Walking.{besides_test, found, passed, ended, first_number, next_number, stand_behind}
+use Rattle.core_queue.proofs.Walking.{besides_test, found, passed, ended, first_number, next_number, stand_after}
 use Rattle.core_queue.proofs.Skipping.{past_from}
 use Rattle.core_queue.proofs.order.first_besides.Goals as goal
 
@@ -25,7 +25,7 @@ returns-then-is_ready_besides c =
 pub loop-queued-preserved : goal.loop-queued-preserved
 loop-queued-preserved c =
     record {
-      from = stand_behind c.past-rest.result.now c.loop-queued.queued-index _ _ c.queued-item.result c.loop-queued-test.true c.queued-item.is (next_number c.loop-queued.queued-index c.args.first) c.loop-queued.invariant.from;
+      from = stand_after c.past-rest.result.now c.loop-queued.queued-index _ _ c.queued-item.result c.loop-queued-test.true c.queued-item.is (next_number c.loop-queued.queued-index c.args.first) c.loop-queued.invariant.from;
       left = λ o first. c.loop-queued.invariant.left o
           (passed (besides_test c.args.numbers.now (settings_of c.args.settings) c.args.committed) c.past-rest.result.now c.loop-queued.queued-index _ _ c.number-number.result c.queued-item.result c.is_ready_besides.result o c.loop-queued-test.true c.queued-item.is c.loop-queued.invariant.from c.number-number.ensures.number c.is_ready_besides.ensures.ready c.if-is_ready_besides.false (next_number c.loop-queued.queued-index c.args.first) first);
     }

@@ -2,7 +2,7 @@ use Rattle.std.proofs.Common.{subst, sym, ℕ}
 use Rattle.core_queue.specs.Settings.{settings_of}
 use Rattle.core_queue.specs.Queues.{AreFrom}
 use Rattle.core_queue.specs.Order.{IsFirstDeliverable}
-use Rattle.core_queue.proofs.Walking.{deliverable_test, found, passed, ended, first_number, next_number, stand_behind}
+use Rattle.core_queue.proofs.Walking.{deliverable_test, found, passed, ended, first_number, next_number, stand_after}
 use Rattle.core_queue.proofs.order.first_deliverable.Goals as goal
 
 pub loop-queued-init : goal.loop-queued-init
@@ -22,7 +22,7 @@ returns-then-is_deliverable c =
 pub loop-queued-preserved : goal.loop-queued-preserved
 loop-queued-preserved c =
     record {
-      from = stand_behind c.args.rest.now c.loop-queued.queued-index _ _ c.queued-item.result c.loop-queued-test.true c.queued-item.is (next_number c.loop-queued.queued-index c.args.committed) c.loop-queued.invariant.from;
+      from = stand_after c.args.rest.now c.loop-queued.queued-index _ _ c.queued-item.result c.loop-queued-test.true c.queued-item.is (next_number c.loop-queued.queued-index c.args.committed) c.loop-queued.invariant.from;
       left = λ o first. c.loop-queued.invariant.left o
           (passed (deliverable_test (settings_of c.args.settings) c.args.committed) c.args.rest.now c.loop-queued.queued-index _ _ c.number-number.result c.queued-item.result c.is_deliverable.result o c.loop-queued-test.true c.queued-item.is c.loop-queued.invariant.from c.number-number.ensures.number c.is_deliverable.ensures.deliverable c.if-is_deliverable.false (next_number c.loop-queued.queued-index c.args.committed) first);
     }

@@ -1,5 +1,5 @@
 use Rattle.std.proofs.Common.{◌+◌, add-one, ap}
-use Rattle.core_queue.proofs.Walking.{stand_behind}
+use Rattle.core_queue.proofs.Walking.{stand_after}
 use Rattle.core_result.specs.Told.{stop_told}
 use Rattle.core_result.proofs.Telling.{stop_on, stop_none, stop_told_here}
 use Rattle.core_result.proofs.stops.stop.Goals as goal
@@ -12,7 +12,7 @@ returns-then-not-is_over c = record {
 
 pub loop-queued-preserved : goal.loop-queued-preserved
 loop-queued-preserved c = record {
-  from = stand_behind c.args.queue.now c.loop-queued.queued-index _ _ c.queued-item.result c.loop-queued-test.true c.queued-item.is (add-one (c.loop-queued.queued-index + 1)) c.loop-queued.invariant.from;
+  from = stand_after c.args.queue.now c.loop-queued.queued-index _ _ c.queued-item.result c.loop-queued-test.true c.queued-item.is (add-one (c.loop-queued.queued-index + 1)) c.loop-queued.invariant.from;
   same = λ ms B. stop_on ms B c.args.queue.now c.loop-queued.queued-index c.queued-item.result c.is_over.result c.loop-queued-test.true c.queued-item.is c.is_over.ensures.over c.if-not-is_over.false (c.loop-queued.invariant.same ms B);
 }
 

@@ -23,9 +23,9 @@ pub returns-clause-format_check : goal.returns-clause-format_check
 unfolding add_relation add_mapping add_tuple operation_of add_update choice_of add_answer header_at relation_at replace_at operation_at update_at choice_at answer_at named_at statement_at laid_out open_line line_with lines_from read relation_of fact_of nulls_within bounded_fact pattern_of mapping_of name_at open_at colon_at end_at whole item_at items_at fact_at atom_at left_atom right_atom last_fact left_at right_at mapping_at facts_at many each tokens_at value_after text_from number_at minus_at point_at null_at token_at digits
 returns-clause-format_check c = shown (codes "youtopia 1\nrelation A 01\n\n\trelation B 2\r\nmapping m : A(x)->B(x,\"\\\"\\\\\\n\")  # m\nbase A(?0.01)\nbase A(-0)\nend") (codes "youtopia 1\nrelation A 1\nrelation B 2\nmapping m: A(x) -> B(x, \"\\\"\\\\\\n\")\nbase A(0)\nbase A(?0.1)\nend\n") refl refl
 
-pub returns-clause-answers_stand_behind_updates : goal.returns-clause-answers_stand_behind_updates
+pub returns-clause-answers_follow_updates : goal.returns-clause-answers_follow_updates
 unfolding add_relation add_mapping add_tuple operation_of add_update choice_of add_answer header_at relation_at replace_at operation_at update_at choice_at answer_at named_at statement_at laid_out open_line line_with lines_from read relation_of fact_of nulls_within bounded_fact pattern_of mapping_of name_at open_at colon_at end_at whole item_at items_at fact_at atom_at left_atom right_atom last_fact left_at right_at mapping_at facts_at many each tokens_at value_after text_from number_at minus_at point_at null_at token_at digits
-returns-clause-answers_stand_behind_updates c = shown (codes "youtopia 1\nrelation A 1\nupdate a ann insert A(1)\nupdate b bob delete A(1)\nanswer b delete A(1),A(2)\nanswer a unify A(?1.1)\nanswer a expand\nend\n") (codes "youtopia 1\nrelation A 1\nupdate a ann insert A(1)\nanswer a unify A(?1.1)\nanswer a expand\nupdate b bob delete A(1)\nanswer b delete A(1), A(2)\nend\n") refl refl
+returns-clause-answers_follow_updates c = shown (codes "youtopia 1\nrelation A 1\nupdate a ann insert A(1)\nupdate b bob delete A(1)\nanswer b delete A(1),A(2)\nanswer a unify A(?1.1)\nanswer a expand\nend\n") (codes "youtopia 1\nrelation A 1\nupdate a ann insert A(1)\nanswer a unify A(?1.1)\nanswer a expand\nupdate b bob delete A(1)\nanswer b delete A(1), A(2)\nend\n") refl refl
 
 pub returns-clause-added_mapping : goal.returns-clause-added_mapping
 unfolding add_relation add_mapping add_tuple operation_of add_update choice_of add_answer header_at relation_at replace_at operation_at update_at choice_at answer_at named_at statement_at laid_out open_line line_with lines_from read relation_of fact_of nulls_within bounded_fact pattern_of mapping_of name_at open_at colon_at end_at whole item_at items_at fact_at atom_at left_atom right_atom last_fact left_at right_at mapping_at facts_at many each tokens_at value_after text_from number_at minus_at point_at null_at token_at digits

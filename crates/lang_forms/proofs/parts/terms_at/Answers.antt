@@ -19,12 +19,12 @@ returns-in_err-item c =
 pub items-preserved : goal.items-preserved
 items-preserved c =
     let grown : map term_meant c.push.new.self.items ≡ map term_meant c.items.found.items ++ term_meant c.in_ok-item.item ∷ [] = rw c.in_ok-push.ensures.ok (map_push term_meant c.items.found.items c.in_ok-item.item) in
-    (rw grown (more (item_at missing.Term term_of) (map term_meant c.items.found.items) (words_of c.items.rest) (length (words_of c.items.rest)) _ (term_meant c.in_ok-item.item) (words_of c.in_ok-item.behind) (length (words_of c.in_ok-item.behind)) c.items.invariant.0 c.in_ok-item.ensures.shorter (rw c.if-not-more.false at c.in_ok-item.ensures.gives)), omega (arith, c.in_ok-item.ensures.shorter, c.items.invariant.1))
+    (rw grown (more (item_at missing.Term term_of) (map term_meant c.items.found.items) (words_of c.items.rest) (length (words_of c.items.rest)) _ (term_meant c.in_ok-item.item) (words_of c.in_ok-item.after) (length (words_of c.in_ok-item.after)) c.items.invariant.0 c.in_ok-item.ensures.shorter (rw c.if-not-more.false at c.in_ok-item.ensures.gives)), omega (arith, c.in_ok-item.ensures.shorter, c.items.invariant.1))
 
 pub returns-then-not-more-clause-gives : goal.returns-then-not-more-clause-gives
 returns-then-not-more-clause-gives c =
     let grown : map term_meant c.push.new.self.items ≡ map term_meant c.items.found.items ++ term_meant c.in_ok-item.item ∷ [] = rw c.in_ok-push.ensures.ok (map_push term_meant c.items.found.items c.in_ok-item.item) in
-    rw grown (last (item_at missing.Term term_of) (map term_meant c.items.found.items) (words_of c.items.rest) (length (words_of c.items.rest)) _ (term_meant c.in_ok-item.item) (words_of c.in_ok-item.behind) c.items.invariant.0 (rw c.if-not-more.true at c.in_ok-item.ensures.gives))
+    rw grown (last (item_at missing.Term term_of) (map term_meant c.items.found.items) (words_of c.items.rest) (length (words_of c.items.rest)) _ (term_meant c.in_ok-item.item) (words_of c.in_ok-item.after) c.items.invariant.0 (rw c.if-not-more.true at c.in_ok-item.ensures.gives))
 
 pub returns-then-not-more-clause-shorter : goal.returns-then-not-more-clause-shorter
 returns-then-not-more-clause-shorter c = omega (arith, c.in_ok-item.ensures.shorter, c.items.invariant.1)

@@ -1,7 +1,7 @@
 use Rattle.std.proofs.Common.{◌∙◌, sym}
 use Rattle.def_language.specs.Names.{same_name}
-use Rattle.lang_schema.proofs.Known.{behind_last}
+use Rattle.lang_schema.proofs.Known.{after_last}
 use Rattle.run_ask.proofs.binding.place_of.Goals as goal
 
 pub returns-in-None : goal.returns-in-None
-returns-in-None c = c.len.ensures.length ∙ sym (behind_last (same_name c.args.name.now.items) c.args.variables.now.items c.in-None.ensures.place)
+returns-in-None c = c.len.ensures.length ∙ sym (after_last (same_name c.args.name.now.items) c.args.variables.now.items c.in-None.ensures.place)

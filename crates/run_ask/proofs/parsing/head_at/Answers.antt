@@ -18,10 +18,10 @@ returns-in_err-item c =
 pub items-preserved : goal.items-preserved
 items-preserved c =
     let grown : map (λ n. n.items) c.push.new.self.items ≡ map (λ n. n.items) c.items.found.items ++ c.in_ok-item.item.items ∷ [] = rw c.in_ok-push.ensures.ok (map_push (λ n. n.items) c.items.found.items c.in_ok-item.item) in
-    (rw grown (more head_name (map (λ n. n.items) c.items.found.items) (words_of c.items.rest) (length (words_of c.items.rest)) _ c.in_ok-item.item.items (words_of c.in_ok-item.behind) (length (words_of c.in_ok-item.behind)) c.items.invariant.0 c.in_ok-item.ensures.shorter (rw c.if-not-more.false at c.in_ok-item.ensures.gives)), omega (arith, c.in_ok-item.ensures.shorter, c.items.invariant.1))
+    (rw grown (more head_name (map (λ n. n.items) c.items.found.items) (words_of c.items.rest) (length (words_of c.items.rest)) _ c.in_ok-item.item.items (words_of c.in_ok-item.after) (length (words_of c.in_ok-item.after)) c.items.invariant.0 c.in_ok-item.ensures.shorter (rw c.if-not-more.false at c.in_ok-item.ensures.gives)), omega (arith, c.in_ok-item.ensures.shorter, c.items.invariant.1))
 
 pub returns-then-not-more : goal.returns-then-not-more
 unfolding head_at
 returns-then-not-more c =
     let grown : map (λ n. n.items) c.push.new.self.items ≡ map (λ n. n.items) c.items.found.items ++ c.in_ok-item.item.items ∷ [] = rw c.in_ok-push.ensures.ok (map_push (λ n. n.items) c.items.found.items c.in_ok-item.item) in
-    record { gives = rw grown (last head_name (map (λ n. n.items) c.items.found.items) (words_of c.items.rest) (length (words_of c.items.rest)) _ c.in_ok-item.item.items (words_of c.in_ok-item.behind) c.items.invariant.0 (rw c.if-not-more.true at c.in_ok-item.ensures.gives)) }
+    record { gives = rw grown (last head_name (map (λ n. n.items) c.items.found.items) (words_of c.items.rest) (length (words_of c.items.rest)) _ c.in_ok-item.item.items (words_of c.in_ok-item.after) c.items.invariant.0 (rw c.if-not-more.true at c.in_ok-item.ensures.gives)) }

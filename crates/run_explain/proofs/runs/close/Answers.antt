@@ -10,7 +10,7 @@ use Rattle.def_steps.specs.Attempts.{outcome_in}
 use Rattle.def_steps.specs.Chase.{caused_chase}
 use Rattle.def_provenance.specs.Courses.{is_done_with}
 use Rattle.def_provenance.specs.Notes.{Noted}
-use Rattle.run_serial.specs.Runs.{behind}
+use Rattle.run_serial.specs.Runs.{after}
 use Rattle.run_serial.proofs.Onward.{goes_on, stops_here}
 use Rattle.run_note.specs.Meanings.{note_of}
 use Rattle.run_explain.specs.Turns.{noted_from}
@@ -19,7 +19,7 @@ use Rattle.run_explain.proofs.runs.close.Goals as goal
 
 pub returns-in_ok-stop-in-Some-clause-told : goal.returns-in_ok-stop-in-Some-clause-told
 returns-in_ok-stop-in-Some-clause-told c = λ ms B u h rs.
-    ap (behind (map finish_of c.args.finishes.now.items))
+    ap (after (map finish_of c.args.finishes.now.items))
     (stops_here ms B c.args.facts.now c.args.number (request_of (update_of u)) rs
     c.args.taken.program.attempt (lack_of c.in-Some.lack) (stop_of c.in_ok-stop-in-Some.field-0)
     (h.0 ∙ ap (λ l. (c.args.taken.program.attempt, option_map lack_of l)) c.in-Some.is)

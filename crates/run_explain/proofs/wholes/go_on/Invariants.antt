@@ -7,7 +7,7 @@ use Rattle.run_note.specs.Meanings.{note_of}
 use Rattle.run_explain.specs.Turns.{left_from}
 use Rattle.run_explain.proofs.wholes.go_on.Given as goal
 
--- Between two steps; the view is of these mappings, in the update's direction, and sees the own writes; from where the attempt comes to the same rest, and what is noted of its steps is noted behind the notes; some steps are left unless it has ended.
+-- Between two steps; the view is of these mappings, in the update's direction, and sees the own writes; from where the attempt comes to the same rest, and what is noted of its steps is noted after the notes; some steps are left unless it has ended.
 abbrev pub invariant-turns : goal.invariant-turns
 invariant-turns l = record {
   between : l.program.reading ≡ None;

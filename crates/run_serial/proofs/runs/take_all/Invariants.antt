@@ -2,7 +2,7 @@ use Rattle.std.proofs.Common.{◌≡◌, suc, drop, map}
 use Rattle.def_chase.specs.Repository.{IsRepository}
 use Rattle.chase_update.specs.Results.{finish_of}
 use Rattle.lang_session.specs.Meanings.{request_of, update_of}
-use Rattle.run_serial.specs.Runs.{behind, told_from}
+use Rattle.run_serial.specs.Runs.{after, told_from}
 use Rattle.run_serial.proofs.runs.take_all.Given as goal
 
 -- What is told of the whole is what is told so far and then of the updates that are left.
@@ -11,6 +11,6 @@ invariant-loop-update l = record {
   sorted : IsRepository l.facts;
   number : l.number ≡ suc l.update-index;
   together :
-      behind (map finish_of l.fn.finishes.items) (told_from l.mappings l.budget l.fn.facts 1 (map request_of (map update_of l.updates)))
-      ≡ behind (map finish_of l.finishes.items) (told_from l.mappings l.budget l.facts l.number (map request_of (map update_of (drop l.update-index l.updates))));
+      after (map finish_of l.fn.finishes.items) (told_from l.mappings l.budget l.fn.facts 1 (map request_of (map update_of l.updates)))
+      ≡ after (map finish_of l.finishes.items) (told_from l.mappings l.budget l.facts l.number (map request_of (map update_of (drop l.update-index l.updates))));
 }

@@ -6,13 +6,13 @@ use Rattle.def_chase.proofs.Sets.{apply_in_order}
 use Rattle.chase_update.specs.Results.{finish_of, lack_of, stop_of}
 use Rattle.lang_session.specs.Meanings.{request_of, update_of}
 use Rattle.def_steps.specs.Chase.{caused_chase}
-use Rattle.run_serial.specs.Runs.{behind}
+use Rattle.run_serial.specs.Runs.{after}
 use Rattle.run_serial.proofs.Onward.{goes_on, stops_here}
 use Rattle.run_serial.proofs.runs.turn.Goals as goal
 
 pub returns-in_ok-stop-in-Some-clause-told : goal.returns-in_ok-stop-in-Some-clause-told
 returns-in_ok-stop-in-Some-clause-told c = λ rs.
-    ap (behind (map finish_of c.args.finishes.now.items))
+    ap (after (map finish_of c.args.finishes.now.items))
     (stops_here c.args.mappings.now c.args.budget c.args.facts.now c.args.number (request_of (update_of c.args.update.now)) rs
     c.in_ok-rest.rest.program.attempt (lack_of c.in-Some.lack) (stop_of c.in_ok-stop-in-Some.field-0)
     (c.in_ok-rest.ensures.rest ∙ ap (λ l. (c.in_ok-rest.rest.program.attempt, option_map lack_of l)) c.in-Some.is)

@@ -2,7 +2,7 @@ use Rattle.std.proofs.Common.{◌∙◌, ap, List, map}
 use Rattle.std.proofs.Math.ListN.{drop_of_length-le}
 use Rattle.lang_session.specs.declared.sessions.SessionUpdate.{SessionUpdate}
 use Rattle.lang_session.specs.Meanings.{request_of, update_of}
-use Rattle.run_serial.specs.Trails.{behind, trailed_from, trails_of}
+use Rattle.run_serial.specs.Trails.{after, trailed_from, trails_of}
 use Rattle.run_serial.proofs.Leaving.{ends_here}
 use Rattle.run_serial.proofs.trailing.take_all.Goals as goal
 
@@ -13,7 +13,7 @@ returns c =
     record {
       left =
           c.loop-update.invariant.together
-          ∙ (ap (λ (us : List SessionUpdate). behind ts (trailed_from ms c.args.budget c.loop-update.facts c.loop-update.number (map request_of (map update_of us))))
+          ∙ (ap (λ (us : List SessionUpdate). after ts (trailed_from ms c.args.budget c.loop-update.facts c.loop-update.number (map request_of (map update_of us))))
           (drop_of_length-le c.args.updates.now c.loop-update-test.false)
           ∙ ends_here ms c.args.budget c.loop-update.facts c.loop-update.number ts);
     }

@@ -6,13 +6,13 @@ use Rattle.def_chase.proofs.Sets.{apply_in_order}
 use Rattle.chase_update.specs.Results.{lack_of, stop_of}
 use Rattle.lang_session.specs.Meanings.{request_of, update_of}
 use Rattle.def_steps.specs.Chase.{caused_chase}
-use Rattle.run_serial.specs.Trails.{behind, trails_of}
+use Rattle.run_serial.specs.Trails.{after, trails_of}
 use Rattle.run_serial.proofs.Leaving.{goes_on, stops_here}
 use Rattle.run_serial.proofs.trailing.turn.Goals as goal
 
 pub returns-in_ok-stop-in-Some-clause-left : goal.returns-in_ok-stop-in-Some-clause-left
 returns-in_ok-stop-in-Some-clause-left c = λ rs.
-    ap (behind (trails_of c.args.trails.now))
+    ap (after (trails_of c.args.trails.now))
     (stops_here c.args.mappings.now c.args.budget c.args.facts.now c.args.number (request_of (update_of c.args.update.now)) rs
     c.in_ok-rest.rest.program.attempt (lack_of c.in-Some.lack) (stop_of c.in_ok-stop-in-Some.field-0)
     (c.in_ok-rest.ensures.rest ∙ ap (λ l. (c.in_ok-rest.rest.program.attempt, option_map lack_of l)) c.in-Some.is)

@@ -1,4 +1,4 @@
--- What is due to the lines is due behind the first reply.
+-- What is due to the lines is due after the first reply.
 use Rattle.std.proofs.lemmas.Result.{err_from_is_err_and}
 use Rattle.cmd_frame.specs.Devices.{change}
 use Rattle.live_replies.specs.Meanings.{live_of}

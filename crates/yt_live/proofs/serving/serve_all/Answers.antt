@@ -1,4 +1,4 @@
--- What is due to the stream is due to the session at its front, and to the lines behind it.
+-- What is due to the stream is due to the session at its front, and to the lines after it.
 use Rattle.std.proofs.Common.{◌+◌, ◌≤◌, ℕ, List, [], length, sym, ap, subst}
 use Rattle.std.specs.Prelude.{OnOk}
 use Rattle.std.proofs.lemmas.Result.{err_from_is_err_and}

@@ -1,4 +1,4 @@
--- The session is refused, or what is served of it is what is served behind its opening.
+-- The session is refused, or what is served of it is what is served after its opening.
 use Rattle.std.proofs.lemmas.Result.{err_from_is_err_and}
 use Rattle.cmd_frame.specs.Devices.{change}
 use Rattle.core_queue.specs.Settings.{settings_of}

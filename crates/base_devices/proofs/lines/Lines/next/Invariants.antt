@@ -1,4 +1,4 @@
--- What was taken so far, behind what was kept, is the line so far and what is kept now; the line has no line feed.
+-- What was kept and what was taken so far are the line so far and what is kept now; the line has no line feed.
 use Rattle.std.proofs.Common.{◌≤◌, ℕ}
 use Rattle.base_devices.specs.Given.{IsBegun}
 use Rattle.base_devices.proofs.lines.Lines.next.Given as goal

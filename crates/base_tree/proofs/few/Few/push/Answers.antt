@@ -7,7 +7,7 @@ pub returns : goal.returns
 returns g c =
     let room = subst (λ n. 1 ≤ n) (ap (λ (b : Batch g.row.T.Denot). b.room) (sym c.self.view_is)) c.requires.room in
     record {
-      behind =
+      added =
           one_more c.self.inside.items.items c.push.new.self.items c.self.inside.given c.args.item c.push.ensures.items c.self.invariant.1 room
           ∙ ap (λ (b : Batch g.row.T.Denot). with_first b (c.args.item.now ∷ [])) c.self.view_is;
     }

@@ -8,4 +8,4 @@ run-requires c = record { short = short c.args.input.now c.session_part.result.0
 
 pub returns : goal.returns
 returns c =
-    placed c.args.self.now.terms.budget (settings_of c.args.self.now.terms.settings) c.args.input.now _ _ _ c.session_part.ensures.session c.session_part.ensures.behind c.run.ensures
+    placed c.args.self.now.terms.budget (settings_of c.args.self.now.terms.settings) c.args.input.now _ _ _ c.session_part.ensures.session c.session_part.ensures.rest c.run.ensures

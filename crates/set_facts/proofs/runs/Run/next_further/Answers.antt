@@ -4,7 +4,7 @@ use Rattle.base_types.specs.Candidates.{column_of}
 use Rattle.base_types.specs.Meanings.{fact_of}
 use Rattle.def_chase.specs.Values.{Fact}
 use Rattle.set_facts.specs.Runs.{run_of}
-use Rattle.set_facts.proofs.Further.{none_behind, none_further, one_kept, one_left, rest_ordered}
+use Rattle.set_facts.proofs.Further.{none_after, none_further, one_kept, one_left, rest_ordered}
 use Rattle.set_facts.proofs.runs.Run.next_further.Goals as goal
 
 pub loop-tuple-init : goal.loop-tuple-init
@@ -19,7 +19,7 @@ returns-then-tuple-relation-clause-step c =
     let rest = run_of c.next.new.self in
     let t = fact_of c.in-Some.tuple.now in
     c.loop-tuple.invariant.same ∙ none_further r column past D rest t c.in-Some.ensures.step c.loop-tuple.invariant.order c.if-tuple-relation.true
-    ∙ sym (none_behind r column past D rest t c.in-Some.ensures.step c.loop-tuple.invariant.order c.if-tuple-relation.true)
+    ∙ sym (none_after r column past D rest t c.in-Some.ensures.step c.loop-tuple.invariant.order c.if-tuple-relation.true)
 
 pub returns-then-tuple-relation-clause-end : goal.returns-then-tuple-relation-clause-end
 returns-then-tuple-relation-clause-end c =

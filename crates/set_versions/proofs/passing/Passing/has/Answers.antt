@@ -6,7 +6,7 @@ use Rattle.base_types.specs.declared.tuples.Tuple.{Tuple}
 use Rattle.def_chase.specs.Repository.{has, IsRepository}
 use Rattle.def_chase.specs.Values.{Fact, fact_cmp}
 use Rattle.set_versions.specs.Passed.{to_pass}
-use Rattle.set_versions.proofs.Passed.{above_passed, behind_in_order, has_first, has_not, has_passed, none_behind_it}
+use Rattle.set_versions.proofs.Passed.{above_passed, has_first, has_not, has_passed, none_after_it, rest_in_order}
 use Rattle.set_versions.proofs.passing.Passing.has.Goals as goal
 
 pub loop-self-init : goal.loop-self-init
@@ -30,9 +30,9 @@ loop-self-preserved c =
     let is = ap (λ o. map (λ e. fact_of e.0) (option_to_list (option_copied o) ++ rest)) c.in-Some.is in
     let step = ap (λ es. map (λ e. fact_of e.0) es) c.next-self.ensures.step in
     let less = ap (λ (k : Tuple). fact_cmp (fact_of k) t) (sym c.get.ensures) ∙ sym c.cmp.ensures ∙ c.in-Less.is in
-    let order = behind_in_order P Q h t is c.loop-self.invariant.ready.order in
+    let order = rest_in_order P Q h t is c.loop-self.invariant.ready.order in
     record {
-      ready = record { order = subst IsRepository step order; end = none_behind_it c.next-self.result rest c.next-self.new.self c.next-self.ensures.step c.next-self.ensures.end };
+      ready = record { order = subst IsRepository step order; end = none_after_it c.next-self.result rest c.next-self.new.self c.next-self.ensures.step c.next-self.ensures.end };
       same = ap (λ (D : List Fact). has D t) (sym step) ∙ sym (has_passed P Q h t is c.loop-self.invariant.ready.order less) ∙ c.loop-self.invariant.same;
       above = λ u e. ap (λ (D : List Fact). has D u) (sym step) ∙ sym (above_passed P Q h t is c.loop-self.invariant.ready.order less u e) ∙ c.loop-self.invariant.above u e;
     }

@@ -3,7 +3,7 @@ use Rattle.std.specs.List.{list_any}
 use Rattle.def_chase.specs.Values.{Fact}
 use Rattle.def_chase.specs.Cursors.{is_of}
 use Rattle.set_facts.proofs.Reading.{none_before_first}
-use Rattle.set_facts.proofs.plain.PlainFacts.begins_behind.Goals as goal
+use Rattle.set_facts.proofs.plain.PlainFacts.begins_after.Goals as goal
 
 pub returns-in-Some : goal.returns-in-Some
 returns-in-Some c = record {

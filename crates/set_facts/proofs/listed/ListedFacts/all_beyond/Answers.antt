@@ -4,7 +4,7 @@ use Rattle.std.specs.Prelude.{filter}
 use Rattle.def_chase.specs.Cursors.{is_beyond}
 use Rattle.def_chase.proofs.Searches.{filter_all}
 use Rattle.base_types.specs.Meanings.{fact_of}
-use Rattle.set_facts.proofs.listed.ListedFacts.behind.Goals as goal
+use Rattle.set_facts.proofs.listed.ListedFacts.all_beyond.Goals as goal
 
 pub returns-in-None-clause-tuples : goal.returns-in-None-clause-tuples
 returns-in-None-clause-tuples c =

@@ -3,7 +3,7 @@ use Rattle.std.proofs.lemmas.Bool.{false≢true}
 use Rattle.std.proofs.lemmas.Bool.Decides.{Decides-eqb}
 use Rattle.std.proofs.lemmas.Slice.Eq.{slice_eq-Decides}
 use Rattle.run_journal.proofs.Heads.{head_taken}
-use Rattle.run_journal.proofs.reading.behind.Goals as goal
+use Rattle.run_journal.proofs.reading.after.Goals as goal
 
 pub returns-else-eq-clause-none : goal.returns-else-eq-clause-none
 returns-else-eq-clause-none c = λ rest e.
