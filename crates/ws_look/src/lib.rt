@@ -1,4 +1,5 @@
-//! Commands that only look at a workspace: tables, questions, violations, the log, the status, and the help.
+//! Commands that only look at a workspace: tables, questions, violations, the log, the status, and the help. Other crates make
+//! `ask`, `why`, and the texts that may go to a file.
 #![tactic(auto)]
 
 mod clashes;

@@ -7,16 +7,14 @@ use crate::status::status;
 use crate::tables::show;
 use crate::violating::violations;
 use std::alloc::Global;
-use ws_ask::ask;
-use ws_command::{Look, Why};
+use ws_command::Look;
 use ws_fault::{Refusal, Status};
 use ws_question::Shown;
 use ws_reply::{Context, Reply, seen_text};
 use ws_space::Space;
-use ws_why::{why_fact, why_unknown};
 
-/// The reply to a command that only looks. It is empty for `graph`, `page`, `dump` and `export`, whose texts are made elsewhere.
-/// It is refused if what is asked for is not there.
+/// The reply to a command that only looks. It is empty for `ask`, `why`, `graph`, `page`, `dump` and `export`, which other crates
+/// make. It is refused if what is asked for is not there.
 pub fn look(
     alloc: Global,
     space: &mut Space,
@@ -26,13 +24,6 @@ pub fn look(
 ) -> Result<Reply, Refusal> {
     match look {
         Look::Show(what, paging) => Ok(show(alloc, space, context, what.as_slice(), paging)?),
-        Look::Ask {
-            asked,
-            unknowns,
-            limit,
-        } => Ok(ask(alloc, space, context, asked, *unknowns, *limit)?),
-        Look::Why(Why::Fact(pattern), dot) => why_fact(alloc, space, context, pattern, *dot),
-        Look::Why(Why::Unknown(unknown), _) => why_unknown(alloc, space, context, *unknown),
         Look::Questions {
             number,
             like,
@@ -51,9 +42,12 @@ pub fn look(
             limit,
         } => logged(alloc, space, context, *number, *since, *limit),
         Look::Status => Ok(status(alloc, space, context)?),
-        Look::Graph(_) | Look::Page(_) | Look::Dump(_) | Look::Export(_) => {
-            Ok(seen_text(Status::Done, Vec::new(alloc)))
-        }
+        Look::Ask { .. }
+        | Look::Why(_, _)
+        | Look::Graph(_)
+        | Look::Page(_)
+        | Look::Dump(_)
+        | Look::Export(_) => Ok(seen_text(Status::Done, Vec::new(alloc))),
     }
 }
 

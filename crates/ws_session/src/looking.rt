@@ -1,16 +1,18 @@
-//! Looks at a workspace in memory, and the texts that they write.
+//! Which look is made by which crate, and where its text goes.
 
 use crate::commands::Turn;
 use crate::leaving::Done;
 use crate::sending::{exported, sent};
 use crate::sessions::{Speaker, context_of};
-use ws_command::Look;
+use ws_ask::ask;
+use ws_command::{Look, Why};
 use ws_dump::dump;
 use ws_fault::Refusal;
 use ws_look::look as looked;
 use ws_out::{export, graph, page};
 use ws_reply::Reply;
 use ws_space::Space;
+use ws_why::{why_fact, why_unknown};
 
 impl Speaker {
     /// Does a look; its text goes into the reply, or to a file.
@@ -44,6 +46,13 @@ impl Speaker {
                 let lines = export(alloc, space, asked)?;
                 exported(rt, settings, asked, lines)
             }
+            Look::Ask {
+                asked,
+                unknowns,
+                limit,
+            } => Ok(ask(alloc, space, &context, asked, *unknowns, *limit)?),
+            Look::Why(Why::Fact(pattern), dot) => why_fact(alloc, space, &context, pattern, *dot),
+            Look::Why(Why::Unknown(unknown), _) => why_unknown(alloc, space, &context, *unknown),
             _ => looked(alloc, space, &mut self.shown, &context, look),
         }
     }
