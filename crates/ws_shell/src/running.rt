@@ -2,7 +2,7 @@
 
 use crate::feeding::{Input, fed_by};
 use crate::scripts::run_script;
-use crate::telling::{form_of, tell, tell_fault, tell_text, tell_wrong, text};
+use crate::telling::{form_of, tell, tell_fault, tell_no_memory, tell_text, tell_wrong, text};
 use crate::words::{Time, curator, said_time, words_of};
 use def_memory::Memory;
 use std::fs;
@@ -13,8 +13,15 @@ use ws_reply::Form;
 use ws_session::{Fed, Session, Settings, Turn};
 use ws_words::{Asked, Words, file_first, read_words, wants_json};
 
-/// Does what the words ask for.
-pub fn run(rt: &HostRuntime) -> Result<Status, Memory> {
+/// Does what the words of the process ask for, and returns its status. Want of memory is told on standard error.
+pub fn run(rt: &HostRuntime) -> Status {
+    match run_given(rt) {
+        Ok(status) => status,
+        Err(_) => tell_no_memory(rt),
+    }
+}
+
+fn run_given(rt: &HostRuntime) -> Result<Status, Memory> {
     let given = words_of(rt)?;
     let words = given.words.as_slice();
     if let Some(number) = given.unread {

@@ -34,7 +34,7 @@ enum Next {
 }
 
 /// Does the lines of standard input, with a prompt if it is a terminal.
-pub fn run_script(
+pub(crate) fn run_script(
     rt: &HostRuntime,
     work: &Words,
     time: &Time,

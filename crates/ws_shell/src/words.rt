@@ -9,14 +9,14 @@ use ws_words::{Words, curator_of, time_of};
 
 /// The words after the program's name.
 #[derive(Drop)]
-pub struct Given {
+pub(crate) struct Given {
     pub words: Vec<String>,
     /// The number of the first word that is not UTF-8, from 1. In `words` its wrong bytes are replaced.
     pub unread: Option<usize>,
 }
 
 /// The words after the program's name.
-pub fn words_of(rt: &HostRuntime) -> Result<Given, Memory> {
+pub(crate) fn words_of(rt: &HostRuntime) -> Result<Given, Memory> {
     let mut given = Given {
         words: Vec::new(rt.alloc()),
         unread: None,
@@ -68,7 +68,7 @@ fn variable(rt: &HostRuntime, name: &str) -> Result<String, Memory> {
 }
 
 /// Who speaks: the name in `--as`, else in `YT_CURATOR`, else in `USER`.
-pub fn curator(rt: &HostRuntime, words: &Words) -> Result<String, Memory> {
+pub(crate) fn curator(rt: &HostRuntime, words: &Words) -> Result<String, Memory> {
     let alloc = rt.alloc();
     if let Some(name) = &words.curator {
         return Ok(curator_of(alloc, name.as_str())?);
@@ -83,7 +83,7 @@ pub fn curator(rt: &HostRuntime, words: &Words) -> Result<String, Memory> {
 
 /// The time of commands: fixed by `YT_TIME`, or that of the clock.
 #[derive(Drop)]
-pub enum Time {
+pub(crate) enum Time {
     Fixed(String),
     Clock,
     /// `YT_TIME` is set, and is no time.
@@ -91,7 +91,7 @@ pub enum Time {
 }
 
 /// The time that `YT_TIME` gives.
-pub fn said_time(rt: &HostRuntime) -> Result<Time, Memory> {
+pub(crate) fn said_time(rt: &HostRuntime) -> Result<Time, Memory> {
     match env::var(rt, "YT_TIME") {
         Ok(set) => Ok(time_in(set)),
         Err(VarError::NotPresent) => Ok(Time::Clock),
@@ -113,7 +113,7 @@ fn time_in(set: String) -> Time {
 
 impl Time {
     /// The time now.
-    pub fn now(&self, rt: &HostRuntime) -> Result<String, AllocError> {
+    pub(crate) fn now(&self, rt: &HostRuntime) -> Result<String, AllocError> {
         match self {
             Time::Fixed(text) => String::from_str(rt.alloc(), text.as_str()),
             _ => by_clock(rt, rt.alloc()),

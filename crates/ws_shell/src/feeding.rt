@@ -11,7 +11,7 @@ use ws_session::Fed;
 
 /// Standard input, read ahead.
 #[derive(Drop)]
-pub struct Input {
+pub(crate) struct Input {
     reader: BufReader<Stdin>,
 }
 
@@ -20,7 +20,7 @@ const MOST: u64 = 1_000_000;
 
 impl Input {
     /// Standard input from its beginning.
-    pub fn new(rt: &HostRuntime) -> Result<Input, Memory> {
+    pub(crate) fn new(rt: &HostRuntime) -> Result<Input, Memory> {
         match BufReader::new(rt.alloc(), rt.stdin()) {
             Ok(reader) => Ok(Input { reader }),
             Err(_) => Err(Memory),
@@ -28,14 +28,14 @@ impl Input {
     }
 
     /// The next line with its line feed; empty at the end of the input.
-    pub fn line(&mut self, alloc: Global) -> io::Result<Vec<u8>> {
+    pub(crate) fn line(&mut self, alloc: Global) -> io::Result<Vec<u8>> {
         let mut line = Vec::new(alloc);
         self.reader.read_until(b'\n', &mut line)?;
         Ok(line)
     }
 
     /// The next `count` lines, or fewer if the input ends.
-    pub fn lines(&mut self, alloc: Global, count: u64) -> io::Result<Fed> {
+    pub(crate) fn lines(&mut self, alloc: Global, count: u64) -> io::Result<Fed> {
         let mut bytes = Vec::new(alloc);
         let mut lines = 0u64;
         for _ in 0..count {
@@ -52,7 +52,7 @@ impl Input {
     }
 
     /// The rest of the input.
-    pub fn rest(&mut self, alloc: Global) -> io::Result<Fed> {
+    pub(crate) fn rest(&mut self, alloc: Global) -> io::Result<Fed> {
         let mut bytes = Vec::new(alloc);
         self.reader.read_to_end(&mut bytes)?;
         Ok(Fed { bytes, lines: 0 })
@@ -61,7 +61,7 @@ impl Input {
 
 /// The part of standard input that belongs to a command given by the program's words; if it cannot be read, the words of the
 /// fault.
-pub fn fed_by(
+pub(crate) fn fed_by(
     rt: &HostRuntime,
     input: &mut Input,
     line: &str,
@@ -82,7 +82,7 @@ pub fn fed_by(
 }
 
 /// The words for standard input that cannot be read. If memory is the reason, the error is want of memory.
-pub fn cannot_read(alloc: Global, error: &io::Error) -> Result<String, Memory> {
+pub(crate) fn cannot_read(alloc: Global, error: &io::Error) -> Result<String, Memory> {
     if error.kind() == ErrorKind::OutOfMemory {
         return Err(Memory);
     }

@@ -9,7 +9,7 @@ use ws_session::fault_reply;
 
 /// Prints a reply: a fault in text on standard error, all else on standard output. The status is that of the reply, unless it
 /// could not be printed.
-pub fn tell(rt: &HostRuntime, form: Form, reply: &Reply) -> Status {
+pub(crate) fn tell(rt: &HostRuntime, form: Form, reply: &Reply) -> Status {
     let is_fault = reply.kind == Kind::Fault && form == Form::Text;
     let lines = reply.lines.as_slice();
     let is_told = match joined(rt.alloc(), lines) {
@@ -53,7 +53,7 @@ fn are_written(rt: &HostRuntime, is_fault: bool, lines: &[String]) -> bool {
 }
 
 /// Prints a text on standard output.
-pub fn tell_text(rt: &HostRuntime, text: &str) -> Result<Status, Memory> {
+pub(crate) fn tell_text(rt: &HostRuntime, text: &str) -> Result<Status, Memory> {
     let mut line = String::from_str(rt.alloc(), text)?;
     if !text.ends_with('\n') {
         line.push('\n')?;
@@ -65,7 +65,7 @@ pub fn tell_text(rt: &HostRuntime, text: &str) -> Result<Status, Memory> {
 }
 
 /// Prints a fault of the words, with a hint unless it is empty.
-pub fn tell_fault(
+pub(crate) fn tell_fault(
     rt: &HostRuntime,
     form: Form,
     status: Status,
@@ -84,23 +84,23 @@ pub fn tell_fault(
 }
 
 /// Prints a fault of the words.
-pub fn tell_wrong(rt: &HostRuntime, form: Form, fault: &Fault) -> Result<Status, Memory> {
+pub(crate) fn tell_wrong(rt: &HostRuntime, form: Form, fault: &Fault) -> Result<Status, Memory> {
     let reply = fault_reply(rt.alloc(), form, fault, "", None)?;
     Ok(tell(rt, form, &reply))
 }
 
 /// Prints that memory ran out.
-pub fn tell_no_memory(rt: &HostRuntime) -> Status {
+pub(crate) fn tell_no_memory(rt: &HostRuntime) -> Status {
     let _ = rt.stderr().write_all(b"yt: out of memory\n");
     Status::NoMemory
 }
 
 /// The form in which replies are printed.
-pub fn form_of(json: bool) -> Form {
+pub(crate) fn form_of(json: bool) -> Form {
     if json { Form::Json } else { Form::Text }
 }
 
 /// The words as a text of its own.
-pub fn text(alloc: Global, words: &str) -> Result<String, AllocError> {
+pub(crate) fn text(alloc: Global, words: &str) -> Result<String, AllocError> {
     String::from_str(alloc, words)
 }
