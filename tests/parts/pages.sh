@@ -11,4 +11,4 @@ check 'each name of the crates that the pages quote is there' "$(tests/pages/nam
 check 'the trace of two curators who collide is one that the reference takes' \
   "$(diff <(cat examples/collision/oslo.session examples/collision/oslo.trace | (cd tests && python3 -m oracle audit)) <(echo 'yes entries 10 quiet') 2>&1)"
 check 'the must-fail edit that CONTRIBUTING shows is there' \
-  "$(diff <(sed -n '/^file: /,/^```/p' CONTRIBUTING.md | sed '$d') crates/base_tree/must-fail/skips_the_key_that_it_begins_at.edit 2>&1)"
+  "$(diff <(sed -n '/^file: /,/^```/p' CONTRIBUTING.md | sed '$d') crates/core_queue/must-fail/counts_one_committed_too_many.edit 2>&1)"
