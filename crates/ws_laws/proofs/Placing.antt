@@ -6,7 +6,7 @@ use Rattle.def_chase.specs.Values.{Fact, same_fact}
 use Rattle.def_chase.proofs.Bools.{none_some, some_same, both}
 use Rattle.def_chase.proofs.Sets.{same_itself}
 use Rattle.def_chase.proofs.Searches.{first_some, find_join}
-use Rattle.def_workspace.specs.Lines.{Source, By, Fix, Anew}
+use Rattle.def_workspace.specs.Lines.{Source, By, Fix, Draw}
 use Rattle.def_workspace.specs.Places.{Cause, Place, Places, same_source, same_cause, among, place_found, greater, greatest, found_or_more, giving}
 use Rattle.def_workspace.specs.NameLaws.{Grows}
 use Rattle.ws_laws.proofs.Growing.{no_more}
@@ -75,7 +75,7 @@ found_at_most q (x ∷ ps) p e = by (q x) e (found_at_most q ps p)
 source_itself : (s : Source) → same_source s s ≡ true
 source_itself (By m) = eq-eqb m m refl
 source_itself (Fix m) = eq-eqb m m refl
-source_itself Anew = refl
+source_itself Draw = refl
 
 facts_themselves : (ts : List Fact) → pointwise same_fact ts ts ≡ true
 facts_themselves [] = refl
