@@ -1,9 +1,8 @@
 //! Accepting a change: its record is appended before its reply is given.
-ghost use Rattle.std.specs.Prelude.{◌++◌, ◌∷◌, [], ℕ, List, IfOk};
-ghost use Rattle.ws_file.specs.Files.{state_of};
-ghost use Rattle.ws_seal.specs.Logs.{IsHeld};
+ghost use Rattle.std.specs.Prelude.{IfOk};
+ghost use Rattle.ws_session.specs.Written.{HasAppended, IsRecorded};
 
-use crate::sessions::{Session, Texts};
+use crate::sessions::Session;
 use def_memory::Memory;
 use std::alloc::Global;
 use ws_fault::Refusal;
@@ -82,23 +81,23 @@ fn keep(
 }
 
 impl Session {
-    /// Records the lines of a change, and returns its reply. At `Ok` the record, if there is one, is acknowledged.
+    /// Records the lines of a change, and returns its reply. At `Ok` the record is acknowledged.
     pub(crate) fn accept(
         &mut self,
         alloc: Global,
+        log: OpenLog,
         outcome: Outcome,
         time: &str,
         comment: &str,
-    ) -> Result<Reply, Refusal> {
+    ) -> Result<(OpenLog, Reply), Refusal>
+        ensures { IfOk result (λ told. IsRecorded log told.0) }
+    {
         let Outcome { reply, lines } = outcome;
-        if lines.is_empty() {
-            return Ok(reply);
-        }
         // All that may fail for want of memory comes before the append; after the append, nothing may fail.
         match self.record(alloc, lines, time, comment) {
-            Ok(()) => self.append(alloc, reply),
+            Ok(()) => self.append(alloc, log, reply),
             Err(memory) => {
-                drop(reply);
+                drop((log, reply));
                 Err(Refusal::from(memory))
             }
         }
@@ -133,33 +132,37 @@ impl Session {
         }
     }
 
-    fn append(&mut self, alloc: Global, reply: Reply) -> Result<Reply, Refusal> {
-        match self.file.append(alloc, reply) {
-            Ok(reply) => Ok(reply),
+    // Appends the last text that is kept, and returns the reply.
+    fn append(&self, alloc: Global, log: OpenLog, reply: Reply) -> Result<(OpenLog, Reply), Refusal>
+        ensures { IfOk result (λ told. IsRecorded log told.0) }
+    {
+        match last_appended(alloc, log, self.file.texts.as_slice(), reply) {
+            Ok(told) => Ok(told),
             Err(fault) => Err(self.speaker.log_fault(alloc, fault)),
         }
     }
 }
 
-impl Texts {
-    // Appends the last text to the log in hand, and returns the reply.
-    fn append(&mut self, alloc: Global, reply: Reply) -> Result<Reply, Fault> {
-        let (Some(log), Some(text)) = (self.log.take(), self.texts.last()) else {
-            drop(reply);
-            return Err(Fault::Memory);
-        };
-        let (log, reply) = told(alloc, log, text.as_slice(), reply)?;
-        self.hold(log);
-        Ok(reply)
-    }
+// Appends the last of the texts, and returns the reply.
+fn last_appended(
+    alloc: Global,
+    log: OpenLog,
+    texts: &[Vec<u8>],
+    reply: Reply,
+) -> Result<(OpenLog, Reply), Fault>
+    ensures { IfOk result (λ told. IsRecorded log told.0) }
+{
+    let Some(text) = texts.last() else {
+        drop((log, reply));
+        return Err(Fault::Memory);
+    };
+    let answer = told(alloc, log, text.as_slice(), reply)?;
+    Ok(answer)
 }
 
 // Appends the text, and returns the reply: so no reply is given before the text is acknowledged.
 fn told(alloc: Global, log: OpenLog, text: &[u8], reply: Reply) -> Result<(OpenLog, Reply), Fault>
-    ensures acknowledged { (before m : List ℕ) (texts : List (List ℕ))
-        → IsHeld before m texts (state_of log.disk) log.gate log.mark
-        → IfOk result (λ told. IsHeld before m (texts ++ text.now ∷ []) (state_of told.0.disk)
-        told.0.gate told.0.mark) }
+    ensures { IfOk result (λ told. HasAppended text.now log told.0) }
 {
     let log = log.append(alloc, text)?;
     Ok((log, reply))

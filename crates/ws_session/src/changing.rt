@@ -3,7 +3,7 @@
 use crate::commands::Turn;
 use crate::folding::fold_over;
 use crate::kinds::change as changed;
-use crate::leaving::{Done, allowed};
+use crate::leaving::{Done, allowed, led_to};
 use crate::loading::loaded;
 use crate::sessions::{Speaker, context_of};
 use def_memory::Memory;
@@ -74,7 +74,7 @@ impl Speaker {
             return fold_over(rt.alloc(), space, self.settings.form);
         }
         match self.change(rt, turn, texts, space, change, false) {
-            Ok(outcome) => Ok(Done::Changed(outcome, comment)),
+            Ok(outcome) => Ok(led_to(outcome, comment)),
             Err(refusal) => Err(refusal),
         }
     }

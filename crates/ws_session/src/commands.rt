@@ -1,4 +1,6 @@
 //! A command: it is read, done over the workspace in memory, and accepted.
+ghost use Rattle.std.specs.Prelude.{IfOk};
+ghost use Rattle.ws_session.specs.Written.{IsWritten};
 
 use crate::failing::{fault, fault_reply};
 use crate::leaving::Done;
@@ -9,7 +11,7 @@ use std::alloc::Global;
 use ws_command::{Said, Verb};
 use ws_fault::{Fault, Refusal, Status};
 use ws_grammar::{Names, read_command};
-use ws_log::Access;
+use ws_log::{Access, OpenLog};
 use ws_reply::Reply;
 use ws_space::Space;
 
@@ -41,13 +43,23 @@ impl Session {
 
     fn answer(&mut self, rt: &HostRuntime, turn: &Turn<'_>) -> Result<Option<Reply>, Refusal> {
         let verb = verb_of(turn.line);
-        if !self.open(rt, access_of(verb), tells_log(verb))? {
-            return self.answer_without(rt, turn);
+        match self.open(rt, access_of(verb), tells_log(verb))? {
+            Some(log) => self.answer_over(rt, turn, log),
+            None => self.answer_without(rt, turn),
         }
+    }
+
+    // The reply to a line over the workspace in memory, whose log is in hand.
+    fn answer_over(
+        &mut self,
+        rt: &HostRuntime,
+        turn: &Turn<'_>,
+        log: OpenLog,
+    ) -> Result<Option<Reply>, Refusal> {
         match self.done(rt, turn) {
-            Ok(done) => self.finish(rt, turn, done),
+            Ok(done) => self.finish(rt, turn, log, done),
             Err(refusal) => {
-                self.rest(rt.alloc());
+                self.rest(rt.alloc(), log);
                 Err(refusal)
             }
         }
@@ -72,11 +84,12 @@ impl Session {
         &mut self,
         rt: &HostRuntime,
         turn: &Turn<'_>,
+        log: OpenLog,
         done: Done,
     ) -> Result<Option<Reply>, Refusal> {
-        match self.written(rt, turn, done) {
-            Ok(reply) => {
-                self.rest(rt.alloc());
+        match self.written(rt, turn, log, done) {
+            Ok((log, reply)) => {
+                self.rest(rt.alloc(), log);
                 Ok(reply)
             }
             Err(refusal) => {
@@ -86,20 +99,28 @@ impl Session {
         }
     }
 
+    // Writes what is to be written, and then returns the reply. So no reply is given before what it tells of lasts.
     fn written(
         &mut self,
         rt: &HostRuntime,
         turn: &Turn<'_>,
+        log: OpenLog,
         done: Done,
-    ) -> Result<Option<Reply>, Refusal> {
+    ) -> Result<(OpenLog, Option<Reply>), Refusal>
+        ensures { IfOk result (λ told. IsWritten done log told.0) }
+    {
         match done {
-            Done::Nothing => Ok(None),
-            Done::Told(reply) => Ok(Some(reply)),
+            Done::Nothing => Ok((log, None)),
+            Done::Told(reply) => Ok((log, Some(reply))),
             Done::Changed(outcome, comment) => {
                 let comment = comment.as_str();
-                Ok(Some(self.accept(rt.alloc(), outcome, turn.time, comment)?))
+                let (log, reply) = self.accept(rt.alloc(), log, outcome, turn.time, comment)?;
+                Ok((log, Some(reply)))
             }
-            Done::Folded(head, reply) => Ok(Some(self.fold(rt, head, reply)?)),
+            Done::Folded(head, reply) => {
+                let (log, reply) = self.fold(rt, log, head, reply)?;
+                Ok((log, Some(reply)))
+            }
         }
     }
 }

@@ -1,4 +1,6 @@
 //! A fold: what stands becomes the base.
+ghost use Rattle.std.specs.Prelude.{[], IfOk};
+ghost use Rattle.ws_log.specs.Held.{IsFresh, IsMadeOf};
 
 use crate::leaving::Done;
 use crate::making::head_text;
@@ -90,13 +92,17 @@ impl Session {
     pub(crate) fn fold(
         &mut self,
         rt: &HostRuntime,
+        log: OpenLog,
         head: Vec<u8>,
         reply: Reply,
-    ) -> Result<Reply, Refusal> {
-        match self.fold_file(rt, head) {
-            Ok(()) => {
+    ) -> Result<(OpenLog, Reply), Refusal>
+        ensures fresh { IfOk result (λ told. IsFresh told.0) }
+        ensures made { IfOk result (λ told. IsMadeOf head.items [] told.0) }
+    {
+        match self.fold_file(rt, log, head) {
+            Ok(log) => {
                 drop(self.space.take());
-                Ok(reply)
+                Ok((log, reply))
             }
             Err(fault) => {
                 drop(reply);
@@ -105,35 +111,20 @@ impl Session {
         }
     }
 
-    fn fold_file(&mut self, rt: &HostRuntime, head: Vec<u8>) -> Result<(), Fault> {
-        // After the fold, nothing may fail.
+    fn fold_file(&mut self, rt: &HostRuntime, log: OpenLog, head: Vec<u8>) -> Result<OpenLog, Fault>
+        ensures fresh { IfOk result IsFresh }
+        ensures made { IfOk result (IsMadeOf head.items []) }
+    {
         let mut texts = Vec::new(rt.alloc());
-        if texts.push(head).is_err() {
+        if texts.reserve_exact(1).is_err() {
+            drop((log, head));
             return Err(Fault::Memory);
         }
         let path = self.speaker.settings.path.as_str();
-        let log = folded_to(rt, path, self.file.log.take(), texts.as_slice())?;
-        self.file.hold(log);
+        let log = fold(rt, path, log, head.as_slice())?;
+        // There is room for it, so nothing fails after the fold.
+        let _ = texts.push(head);
         self.file.texts = texts;
-        Ok(())
-    }
-}
-
-// The log of the head alone, which is the only text.
-fn folded_to(
-    rt: &HostRuntime,
-    path: &str,
-    log: Option<OpenLog>,
-    texts: &[Vec<u8>],
-) -> Result<OpenLog, Fault> {
-    let Some(log) = log else {
-        return Err(Fault::Memory);
-    };
-    match texts.first() {
-        Some(head) => fold(rt, path, log, head.as_slice()),
-        None => {
-            drop(log);
-            Err(Fault::Memory)
-        }
+        Ok(log)
     }
 }

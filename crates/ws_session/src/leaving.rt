@@ -1,4 +1,6 @@
 //! What a command leads to before anything is written, and the commands that are not allowed.
+ghost use Rattle.std.specs.Prelude.{◌≡◌, ◌↔◌, [], IsTrue};
+ghost use Rattle.ws_session.specs.Written.{IsLedTo};
 
 use crate::failing::refused;
 use crate::sessions::Settings;
@@ -6,6 +8,7 @@ use std::alloc::Global;
 use ws_command::{Change, Command, Export, Look, Source};
 use ws_fault::{Refusal, Status};
 use ws_reply::{Outcome, Reply};
+use ws_written::Line;
 
 /// What a command leads to over the workspace in memory.
 #[derive(Drop)]
@@ -14,10 +17,27 @@ pub(crate) enum Done {
     Nothing,
     /// A reply, with nothing to record.
     Told(Reply),
-    /// A change, and the comment of its line.
+    /// A change that has lines to be recorded, and the comment of its line.
     Changed(Outcome, String),
     /// The text of the head that takes the file's place, and the reply.
     Folded(Vec<u8>, Reply),
+}
+
+/// What a change leads to. If it has no lines, its reply is all.
+pub(crate) fn led_to(outcome: Outcome, comment: String) -> Done
+    ensures { IsLedTo outcome.lines.items result }
+{
+    if is_nothing(&outcome.lines) {
+        return Done::Told(outcome.reply);
+    }
+    Done::Changed(outcome, comment)
+}
+
+// Whether there is nothing to record.
+fn is_nothing(lines: &Vec<Line>) -> bool
+    ensures { IsTrue result ↔ (lines.now.items ≡ []) }
+{
+    lines.is_empty()
 }
 
 /// Refuses a command that reads or writes another file if files are closed, and a command that expects the log at another record

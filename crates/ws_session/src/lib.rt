@@ -2,8 +2,11 @@
 //! appends one record before its reply is given.
 //!
 //! `Session::command` returns the reply to a line. A reply to a change is given only after its record is acknowledged; a refused
-//! change leaves the file as it was. If the disk fails, the record may be there or not. A session keeps what it has read, so that a command costs only what is new. What was only
-//! tried in memory is taken back; if that is not possible, the file is read again.
+//! change leaves the file as it was. If the disk fails, the record may be there or not. Only a function that is given the log in
+//! hand can write to it, and hands it back with the reply; a fault drops it.
+//!
+//! A session keeps what it has read, so that a command costs only what is new. What was only tried in memory is taken back; if that
+//! is not possible, the file is read again.
 #![tactic(auto)]
 
 mod accepting;

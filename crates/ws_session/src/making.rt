@@ -1,4 +1,6 @@
 //! Making the file by its first command.
+ghost use Rattle.std.specs.Prelude.{IfOk};
+ghost use Rattle.ws_session.specs.Written.{IsCreated};
 
 use crate::accepting::stamp_of;
 use crate::changing::quit;
@@ -24,7 +26,9 @@ impl Session {
         turn: &Turn<'_>,
     ) -> Result<Option<Reply>, Refusal> {
         let answer = self.first(rt, turn);
-        self.rest(rt.alloc());
+        if self.file.resting.is_none() {
+            self.forget(rt.alloc());
+        }
         answer
     }
 
@@ -96,7 +100,11 @@ impl Session {
     ) -> Result<Reply, Refusal> {
         let Said { command, comment } = said;
         match command {
-            Command::Change { change, .. } => self.make(rt, turn, change, comment.as_str()),
+            Command::Change { change, .. } => {
+                let (log, reply) = self.make(rt, turn, change, comment.as_str())?;
+                self.rest(rt.alloc(), log);
+                Ok(reply)
+            }
             other => {
                 drop(other);
                 Err(self.speaker.no_file(rt.alloc()))
@@ -111,7 +119,9 @@ impl Session {
         turn: &Turn<'_>,
         change: Change,
         comment: &str,
-    ) -> Result<Reply, Refusal> {
+    ) -> Result<(OpenLog, Reply), Refusal>
+        ensures { IfOk result (λ told. IsCreated told.0) }
+    {
         match self.keep_head(rt.alloc()) {
             Ok(()) => {
                 let outcome = self.first_outcome(rt, turn, change)?;
@@ -154,7 +164,9 @@ impl Session {
         time: &str,
         outcome: Outcome,
         comment: &str,
-    ) -> Result<Reply, Refusal> {
+    ) -> Result<(OpenLog, Reply), Refusal>
+        ensures { IfOk result (λ told. IsCreated told.0) }
+    {
         let Outcome { reply, lines } = outcome;
         match self.record(rt.alloc(), lines, time, comment) {
             Ok(()) => self.create(rt, reply),
@@ -165,13 +177,12 @@ impl Session {
         }
     }
 
-    fn create(&mut self, rt: &HostRuntime, reply: Reply) -> Result<Reply, Refusal> {
+    fn create(&self, rt: &HostRuntime, reply: Reply) -> Result<(OpenLog, Reply), Refusal>
+        ensures { IfOk result (λ told. IsCreated told.0) }
+    {
         let path = self.speaker.settings.path.as_str();
         match created(rt, path, self.file.texts.as_slice()) {
-            Ok(log) => {
-                self.file.hold(log);
-                Ok(reply)
-            }
+            Ok(log) => Ok((log, reply)),
             Err(fault) => {
                 drop(reply);
                 Err(self.speaker.log_fault(rt.alloc(), fault))
@@ -180,11 +191,15 @@ impl Session {
     }
 }
 
-fn created(rt: &HostRuntime, path: &str, texts: &[Vec<u8>]) -> Result<OpenLog, Fault> {
-    match texts.split_first() {
-        Some((head, records)) => create(rt, path, head.as_slice(), records),
-        None => Err(Fault::Memory),
-    }
+// The log of the first text as its head and the others after it, in a new file.
+fn created(rt: &HostRuntime, path: &str, texts: &[Vec<u8>]) -> Result<OpenLog, Fault>
+    ensures { IfOk result (λ log. IsCreated log) }
+{
+    let Some((head, records)) = texts.split_first() else {
+        return Err(Fault::Memory);
+    };
+    let log = create(rt, path, head.as_slice(), records)?;
+    Ok(log)
 }
 
 fn makes_file(change: &Change) -> bool {

@@ -4,27 +4,24 @@ use crate::sessions::{Session, Texts};
 use std::alloc::{AllocError, Global};
 use std::mem;
 use ws_fault::Refusal;
-use ws_log::{Access, Fault, Opened, Reopened, RestingLog, open, reopen};
+use ws_log::{Access, Fault, OpenLog, Opened, Reopened, RestingLog, open, reopen};
 use ws_space::{Opening, Point, Space};
 
 impl Session {
-    /// Locks the file and reads what is new; false if there is no file. At `Ok(true)` the workspace is in memory and the log is
-    /// in hand. The lines of the log are kept only if `tells_log` says so or further lines may come.
+    /// Locks the file, reads what is new, and returns the log in hand; None if there is no file. With a log the workspace is in
+    /// memory. The lines of the log are kept only if `tells_log` says so or further lines may come.
     pub(crate) fn open(
         &mut self,
         rt: &HostRuntime,
         access: Access,
         tells_log: bool,
-    ) -> Result<bool, Refusal> {
+    ) -> Result<Option<OpenLog>, Refusal> {
         let alloc = rt.alloc();
         match self.read_on(rt, access) {
-            Ok(()) => {
-                self.build(alloc, tells_log)?;
-                Ok(true)
-            }
+            Ok(log) => self.built(alloc, log, tells_log),
             Err(Fault::Absent) => {
                 self.forget(alloc);
-                Ok(false)
+                Ok(None)
             }
             Err(fault) => {
                 self.forget(alloc);
@@ -33,14 +30,13 @@ impl Session {
         }
     }
 
-    fn read_on(&mut self, rt: &HostRuntime, access: Access) -> Result<(), Fault> {
+    fn read_on(&mut self, rt: &HostRuntime, access: Access) -> Result<OpenLog, Fault> {
         match self.file.resting.take() {
             Some(resting) => self.reread(rt, access, resting),
             None => {
                 let wait = self.speaker.wait();
                 let opened = open(rt, self.speaker.settings.path.as_str(), access, wait)?;
-                self.begin_with(opened);
-                Ok(())
+                Ok(self.begin_with(opened))
             }
         }
     }
@@ -50,23 +46,36 @@ impl Session {
         rt: &HostRuntime,
         access: Access,
         resting: RestingLog,
-    ) -> Result<(), Fault> {
+    ) -> Result<OpenLog, Fault> {
         let wait = self.speaker.wait();
         let path = self.speaker.settings.path.as_str();
         match reopen(rt, resting, path, access, wait)? {
             Reopened::Same(opened) => self.file.keep(opened),
-            Reopened::Another(opened) => {
-                self.begin_with(opened);
-                Ok(())
-            }
+            Reopened::Another(opened) => Ok(self.begin_with(opened)),
         }
     }
 
-    fn begin_with(&mut self, opened: Opened) {
+    fn begin_with(&mut self, opened: Opened) -> OpenLog {
         drop(self.space.take());
         let Opened { log, texts } = opened;
         self.file.texts = texts;
-        self.file.hold(log);
+        log
+    }
+
+    // The log, once the workspace is in memory.
+    fn built(
+        &mut self,
+        alloc: Global,
+        log: OpenLog,
+        tells_log: bool,
+    ) -> Result<Option<OpenLog>, Refusal> {
+        match self.build(alloc, tells_log) {
+            Ok(()) => Ok(Some(log)),
+            Err(refusal) => {
+                drop(log);
+                Err(refusal)
+            }
+        }
     }
 
     // Makes the workspace of all texts that were read, or adds what is new to it.
@@ -96,21 +105,20 @@ impl Session {
 
     /// Whether an update waits in the file. It is also true if there is no file, or if it cannot be read.
     pub fn waits(&mut self, rt: &HostRuntime) -> bool {
-        let Ok(true) = self.open(rt, Access::Read, true) else {
+        let Ok(Some(log)) = self.open(rt, Access::Read, true) else {
             return true;
         };
         let waits = match &self.space {
             Some(space) => !space.state.waiting().is_empty(),
             None => true,
         };
-        self.rest(rt.alloc());
+        self.rest(rt.alloc(), log);
         waits
     }
 
-    /// Frees the lock. What was read is kept, unless no log is in hand, the lock could not be freed, or the workspace cannot go
-    /// back.
-    pub(crate) fn rest(&mut self, alloc: Global) {
-        if !self.file.rest() || !self.is_back(alloc) {
+    /// Frees the lock. What was read is kept, unless the lock could not be freed, or the workspace cannot go back.
+    pub(crate) fn rest(&mut self, alloc: Global, log: OpenLog) {
+        if !self.file.rest(log) || !self.is_back(alloc) {
             self.forget(alloc);
         }
     }
@@ -129,13 +137,15 @@ impl Session {
 }
 
 impl Texts {
-    // Keeps the log, and adds the new texts.
-    fn keep(&mut self, opened: Opened) -> Result<(), Fault> {
+    // Adds the new texts, and returns the log.
+    fn keep(&mut self, opened: Opened) -> Result<OpenLog, Fault> {
         let Opened { log, texts } = opened;
-        self.hold(log);
         match self.add_texts(texts) {
-            Ok(()) => Ok(()),
-            Err(_) => Err(Fault::Memory),
+            Ok(()) => Ok(log),
+            Err(_) => {
+                drop(log);
+                Err(Fault::Memory)
+            }
         }
     }
 
@@ -147,10 +157,7 @@ impl Texts {
     }
 
     // Frees the lock. Returns whether the log is at rest now.
-    fn rest(&mut self) -> bool {
-        let Some(log) = self.log.take() else {
-            return false;
-        };
+    fn rest(&mut self, log: OpenLog) -> bool {
         match log.release() {
             Ok(resting) => {
                 drop(mem::replace(&mut self.resting, Some(resting)));

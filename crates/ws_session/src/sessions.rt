@@ -3,7 +3,7 @@
 use std::alloc::{AllocError, Global};
 use std::mem;
 use std::time::Duration;
-use ws_log::{OpenLog, RestingLog};
+use ws_log::RestingLog;
 use ws_question::Shown;
 use ws_reply::{Context, Form};
 use ws_space::{Point, Space};
@@ -40,11 +40,11 @@ pub(crate) struct Speaker {
     pub point: Option<Point>,
 }
 
-/// The texts read from the file, the head first, and the log: in hand while a command is done, else at rest.
+/// The texts read from the file, the head first, and the log at rest. While a command is done its log is in hand, which is a value
+/// of its own.
 #[derive(Drop)]
 pub(crate) struct Texts {
     pub texts: Vec<Vec<u8>>,
-    pub log: Option<OpenLog>,
     pub resting: Option<RestingLog>,
 }
 
@@ -77,14 +77,8 @@ impl Texts {
     pub(crate) fn none(alloc: Global) -> Texts {
         Texts {
             texts: Vec::new(alloc),
-            log: None,
             resting: None,
         }
-    }
-
-    /// Takes the log in hand.
-    pub(crate) fn hold(&mut self, log: OpenLog) {
-        drop(mem::replace(&mut self.log, Some(log)));
     }
 }
 
