@@ -21,7 +21,7 @@ lines-preserved c =
     record {
       same = goes_on c.lines.number c.lines.start (state_of c.lines.reader) _ _ _ _ _ left c.lines.invariant.same c.in_ok-numbered_line.ensures;
       number = omega (arith, c.lines.invariant.number, ap length left);
-      place = further c.first_line.result.1 c.lines.start (length c.first_line.result.0.now) (length c.in-Some.text.now) (length c.args.bytes.now) c.first_line.ensures.after (rw c.in-Some.is at c.lines.invariant.place);
+      place = further c.first_line.result.1 c.lines.start (length c.first_line.result.0.now) (length c.in-Some.text.now) (length c.args.bytes.now) c.first_line.ensures.rest (rw c.in-Some.is at c.lines.invariant.place);
     }
 
 pub returns-clause-taken : goal.returns-clause-taken
