@@ -1,5 +1,5 @@
-//! A session over a workspace's file. Each command reads what is new in the file, is done over the workspace in memory, and
-//! appends one record before its reply is given.
+//! A session over a workspace's file, and what the program `yt` does with it. Each command reads what is new in the file, is done
+//! over the workspace in memory, and appends one record before its reply is given.
 //!
 //! `Session::command` returns the reply to a line. A reply to a change is given only after its record is acknowledged; a refused
 //! change leaves the file as it was. If the disk fails, the record may be there or not. Only a function that is given the log in
@@ -22,8 +22,6 @@ mod making;
 mod opening;
 mod sending;
 mod sessions;
+mod shell;
 
-pub use crate::commands::Turn;
-pub use crate::failing::{fault_reply, not_utf8};
-pub use crate::loading::Fed;
-pub use crate::sessions::{Session, Settings};
+pub use crate::shell::run;

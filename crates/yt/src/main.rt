@@ -1,9 +1,9 @@
-//! `yt`: a shared workspace in one file. `ws_shell` does what the words ask for, and its status is that of the process.
+//! `yt`: a shared workspace in one file. `ws_session` does what the words ask for, and its status is that of the process.
 #![tactic(auto)]
 
 use std::fs::File;
 use std::process::ExitCode;
-use ws_shell::run;
+use ws_session::run;
 
 fn main(rt: HostRuntime) -> ExitCode {
     // If a standard stream is closed, one of these files gets its number. Else the workspace would get it, and output would go

@@ -3,7 +3,6 @@
 //! The words give the file, who speaks, and one command; without a command, each line of standard input is a command. The status
 //! is that of the command. A script has the first status that stops it, or would stop it without `--keep-going`. If there is
 //! none, it is `Waits` if a change waited and an update still waits, else `Done`.
-#![tactic(auto)]
 
 mod feeding;
 mod running;
@@ -11,4 +10,4 @@ mod scripts;
 mod telling;
 mod words;
 
-pub use crate::running::run;
+pub use crate::shell::running::run;

@@ -1,11 +1,11 @@
 //! What goes to standard output and standard error.
 
+use crate::failing::fault_reply;
 use def_memory::Memory;
 use std::alloc::{AllocError, Global};
 use std::io::Write;
 use ws_fault::{Fault, Status};
 use ws_reply::{Form, Kind, Reply};
-use ws_session::fault_reply;
 
 /// Prints a reply: a fault in text on standard error, all else on standard output. The status is that of the reply, unless it
 /// could not be printed.

@@ -1,5 +1,6 @@
 //! Standard input: its lines, and the part of it that belongs to a line.
 
+use crate::loading::Fed;
 use def_memory::Memory;
 use std::alloc::Global;
 use std::io::{self, BufRead, BufReader, ErrorKind, Read};
@@ -7,7 +8,6 @@ use std::rt::Stdin;
 use ws_command::{Change, Command, Source};
 use ws_grammar::{Names, lines_of, read_command};
 use ws_log::reason;
-use ws_session::Fed;
 
 /// Standard input, read ahead.
 #[derive(Drop)]

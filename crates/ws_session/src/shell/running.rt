@@ -1,16 +1,20 @@
 //! Doing what the words ask for.
 
-use crate::feeding::{Input, fed_by};
-use crate::scripts::run_script;
-use crate::telling::{form_of, tell, tell_fault, tell_no_memory, tell_text, tell_wrong, text};
-use crate::words::{Time, curator, said_time, words_of};
+use crate::commands::Turn;
+use crate::loading::Fed;
+use crate::sessions::{Session, Settings};
+use crate::shell::feeding::{Input, fed_by};
+use crate::shell::scripts::run_script;
+use crate::shell::telling::{
+    form_of, tell, tell_fault, tell_no_memory, tell_text, tell_wrong, text,
+};
+use crate::shell::words::{Time, curator, said_time, words_of};
 use def_memory::Memory;
 use std::fs;
 use ws_command::Verb;
 use ws_fault::{Refusal, Status};
 use ws_help::{VERSION, help_text};
 use ws_reply::Form;
-use ws_session::{Fed, Session, Settings, Turn};
 use ws_words::{Asked, Words, file_first, read_words, wants_json};
 
 /// Does what the words of the process ask for, and returns its status. Want of memory is told on standard error.

@@ -1,15 +1,18 @@
 //! The lines of standard input, done one by one.
 
-use crate::feeding::{Input, cannot_read};
-use crate::telling::{form_of, tell, tell_fault};
-use crate::words::Time;
+use crate::commands::Turn;
+use crate::failing::{fault_reply, not_utf8};
+use crate::loading::Fed;
+use crate::sessions::Session;
+use crate::shell::feeding::{Input, cannot_read};
+use crate::shell::telling::{form_of, tell, tell_fault};
+use crate::shell::words::Time;
 use def_memory::Memory;
 use std::alloc::Global;
 use std::io::{self, IsTerminal, Write};
 use ws_fault::Status;
 use ws_grammar::lines_of;
 use ws_reply::{Form, Kind, Reply};
-use ws_session::{Fed, Session, Turn, fault_reply, not_utf8};
 use ws_words::Words;
 
 // A script under way: the form of replies; whether it comes from a terminal; whether it goes on after faults; the number of the
