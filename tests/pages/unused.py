@@ -14,10 +14,7 @@ CRATES = ROOT / "crates"
 
 # Unused items that stay, with the reason.
 KEPT = {
-    "chase_match.extends": "whether a match extends a binding: a promise of its own",
-    "chase_match.first_match": "the first match of a pattern: a promise of its own",
     "chase_unifier.specific_by": "the more specific tuples by a binding: a promise of its own",
-    "chase_violation.holds": "whether a mapping holds: a promise of its own",
     "core_engine.drained": "an opened and drained core gives the serial run, whatever the settings",
     "def_machine.proofs.Sessions.committed_alike": "a law of the crate's README",
     "run_laws.proofs.Serial.ms": "a word of its module for the mappings of the session",
