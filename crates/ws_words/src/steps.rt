@@ -152,7 +152,11 @@ fn no_option<T>(alloc: Global, word: &str) -> Result<T, Refusal> {
     let words = format!(in alloc; "there is no option {word}")?;
     match nearest.question()? {
         Some(question) => wrong(alloc, words.as_str(), question.as_str()),
-        None => wrong(alloc, words.as_str(), "options of a command stand after it"),
+        None => wrong(
+            alloc,
+            words.as_str(),
+            "options of a command stand behind it",
+        ),
     }
 }
 
