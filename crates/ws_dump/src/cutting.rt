@@ -43,7 +43,7 @@ impl Weight {
         self.ops = self.ops.saturating_add(standing.ops.len());
         self.added = self.added.saturating_add(added_by(standing));
         self.answers = self.answers.saturating_add(standing.answers.len());
-        let curator = String::from_utf8_lossy(alloc, update.curator.as_slice())?;
+        let curator = String::from_utf8_lossy(alloc, update.saying.curator())?;
         self.curators.insert(curator)?;
         if let Deed::Fix(mapping, _) = &update.deed {
             self.repaired.insert(*mapping)?;

@@ -3,7 +3,7 @@
 use crate::hidden::repaired_by;
 use crate::mappings::add_mapping;
 use crate::renaming::Renaming;
-use base_types::{MappingList, Memory, Name, Operation, TryCopy, Update};
+use base_types::{MappingList, Memory, Name, Operation, Update};
 use lang_session::{SessionUpdate, SessionUpdates};
 use std::alloc::Global;
 use ws_run::Op;
@@ -46,7 +46,7 @@ impl Updates {
         let repaired = repaired_by(space, standing.held);
         for (place, op) in standing.ops.as_slice().iter().enumerate() {
             let label = label_of(alloc, held.update.number, place)?;
-            let curator = held.update.curator.copy(alloc)?;
+            let curator = Name::from_vec(Vec::from_slice(alloc, held.update.saying.curator())?);
             let answers = renaming.choices(op.choices.as_slice(), repaired)?;
             let operation = self.operation(alloc, space, renaming, repaired, op)?;
             let update = Update {

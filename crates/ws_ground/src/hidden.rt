@@ -61,8 +61,15 @@ fn news_among(tuples: &[SpelledTuple]) -> u32 {
 }
 
 fn news_in(tuple: &SpelledTuple) -> u32 {
+    match tuple {
+        SpelledTuple::Known(_) => 0,
+        SpelledTuple::New(_, values) => news_of_values(values.as_slice()),
+    }
+}
+
+fn news_of_values(values: &[Spelled]) -> u32 {
     let mut most = 0;
-    for value in tuple.values.as_slice() {
+    for value in values {
         if let Spelled::New(number) = value {
             if most < *number {
                 most = *number;

@@ -1,30 +1,18 @@
 //! Updates that wait with the same tuple.
 
-use base_types::{Memory, Tuple, Value};
+use base_types::{Memory, Tuple};
 use std::alloc::Global;
-use ws_lines::{Deed, Spelled, SpelledTuple, Update};
+use ws_lines::{Deed, SpelledTuple, Update};
 use ws_report::{Note, said_text};
 use ws_space::Space;
 use ws_written::Fact;
 
-fn is_spelled(spelled: &Spelled, value: Option<&Value>) -> bool {
-    match (spelled, value) {
-        (Spelled::Known(known), Some(value)) => known == value,
-        _ => false,
-    }
-}
-
 // Whether the line's tuple is this tuple by names.
 fn spells(spelled: &SpelledTuple, tuple: &Tuple) -> bool {
-    if spelled.relation != tuple.relation || spelled.values.len() != tuple.values.len() {
-        return false;
+    match spelled {
+        SpelledTuple::Known(known) => known == tuple,
+        SpelledTuple::New(_, _) => false,
     }
-    for (place, one) in spelled.values.as_slice().iter().enumerate() {
-        if !is_spelled(one, tuple.values.get(place)) {
-            return false;
-        }
-    }
-    true
 }
 
 fn inserts(update: &Update, tuple: &Tuple) -> bool {

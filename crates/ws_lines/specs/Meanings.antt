@@ -1,11 +1,13 @@
 -- What lines mean, in the terms of the definitions.
 use Rattle.std.specs.Prelude.{ℕ, List, map}
 use Rattle.base_types.specs.Meanings.{null_of, datum_of, fact_of, choice_of, rule_of}
+use Rattle.def_chase.specs.Values.{Fact}
 use Rattle.base_types.specs.declared.mappings.Mapping.{Mapping}
 use Rattle.def_workspace.specs.Lines.{Spelled, Known, New, SpelledFact, Deed, Inserts, Deletes, Fills, Swaps, Fixes, Forces, Drops, Update, Source, By, Fix, Draw, Asked, Given, Declared, Line, Says, Answers, Goes, Undoes, Redoes, Forgets, Declares}
 use Rattle.ws_lines.specs.declared.spelled.Spelled.{Spelled as SpelledOfProgram}
 use Rattle.ws_lines.specs.declared.spelled.Spelled.TheVariants.{Known as KnownValue, New as NewUnknown}
 use Rattle.ws_lines.specs.declared.spelled.SpelledTuple.{SpelledTuple}
+use Rattle.ws_lines.specs.declared.spelled.SpelledTuple.TheVariants.{Known as KnownTuple, New as NewTuple}
 use Rattle.ws_lines.specs.declared.deeds.Deed.{Deed as DeedOfProgram}
 use Rattle.ws_lines.specs.declared.deeds.Deed.TheVariants.{Insert as InsertTuples, Delete as DeleteTuples, Fill as FillUnknown, Swap as SwapTuples, Fix as FixMapping, Force as ForceMapping, Drop as DropMapping}
 use Rattle.ws_lines.specs.declared.deeds.Update.{Update as UpdateOfProgram}
@@ -19,8 +21,13 @@ abbrev pub spelled_of : SpelledOfProgram → Spelled
 spelled_of (KnownValue v) = Known (datum_of v)
 spelled_of (NewUnknown j) = New j
 
+-- A tuple whose values are all known.
+abbrev pub known_fact : Fact → SpelledFact
+known_fact f = record { relation = f.relation; values = map (λ v. Known v) f.values }
+
 abbrev pub spelled_fact_of : SpelledTuple → SpelledFact
-spelled_fact_of t = record { relation = t.relation; values = map spelled_of t.values.items }
+spelled_fact_of (KnownTuple t) = known_fact (fact_of t)
+spelled_fact_of (NewTuple r vs) = record { relation = r; values = map spelled_of vs.items }
 
 abbrev pub deed_of : DeedOfProgram → Deed
 deed_of (InsertTuples ts) = Inserts (map spelled_fact_of ts.items)

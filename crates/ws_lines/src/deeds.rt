@@ -3,8 +3,9 @@ ghost use Rattle.std.specs.Prelude.{◌≡◌, IfOk};
 ghost use Rattle.def_workspace.specs.Lines.{Deed as DeedMeant, Update as UpdateMeant};
 ghost use Rattle.ws_lines.specs.Meanings.{deed_of, update_of};
 
+use crate::sayings::Saying;
 use crate::spelled::{SpelledTuple, SpelledTupleList};
-use base_types::{List, Memory, Name, NameList, Null, TryCopy, Tuple, TupleList, Value, ValueList};
+use base_types::{List, Memory, NameList, Null, TryCopy, Tuple, TupleList, Value, ValueList};
 use std::alloc::Global;
 
 /// What an update does: insert tuples; delete tuples; replace an unknown by a value wherever it stands; replace the first tuple
@@ -21,14 +22,13 @@ pub enum Deed {
     Drop(u16),
 }
 
-/// An update: its number, who said it and when, the number of steps that each op may make, what it does, and the names of its new
+/// An update: its number, the number of steps that each op may make, who said it and when, what it does, and the names of its new
 /// unknowns by number. The name of a bare `?` is empty.
 #[derive(Drop)]
 pub struct Update {
     pub number: u32,
-    pub time: Name,
-    pub curator: Name,
     pub steps: u32,
+    pub saying: Saying,
     pub deed: Deed,
     pub news: NameList,
 }
@@ -66,9 +66,8 @@ impl TryCopy for Update {
     {
         Ok(Update {
             number: self.number,
-            time: self.time.copy(alloc)?,
-            curator: self.curator.copy(alloc)?,
             steps: self.steps,
+            saying: self.saying.share()?,
             deed: self.deed.copy(alloc)?,
             news: self.news.copy(alloc)?,
         })

@@ -7,9 +7,11 @@
 mod answers;
 mod deeds;
 mod lines;
+mod sayings;
 mod spelled;
 
 pub use crate::answers::{Asked, Given, GivenList, Source};
 pub use crate::deeds::{Deed, Update, UpdateList};
 pub use crate::lines::{Line, LineList, Table, TableList};
+pub use crate::sayings::Saying;
 pub use crate::spelled::{Spelled, SpelledList, SpelledTuple, SpelledTupleList};

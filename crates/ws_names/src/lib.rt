@@ -6,5 +6,5 @@ mod names;
 mod places;
 
 pub use crate::causes::Cause;
-pub use crate::names::Names;
+pub use crate::names::{Names, has_null};
 pub use crate::places::{Place, Places, give};

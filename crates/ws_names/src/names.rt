@@ -110,8 +110,8 @@ impl Names {
     }
 }
 
-// Whether the tuple has a null.
-fn has_null(tuple: &Tuple) -> bool {
+/// Whether the tuple has a null.
+pub fn has_null(tuple: &Tuple) -> bool {
     tuple
         .values
         .as_slice()

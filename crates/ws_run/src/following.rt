@@ -33,8 +33,11 @@ fn follow_one(alloc: Global, step: &Step, value: Value) -> Result<Value, Memory>
     }
 }
 
-/// What the tuple has become by the run so far.
+/// What the tuple has become by the run so far. If no step was a substitution, it is the same tuple, which is shared.
 pub(crate) fn followed(alloc: Global, thread: &Thread, tuple: &Tuple) -> Result<Tuple, Memory> {
+    if !thread.rewrites {
+        return tuple.share();
+    }
     let mut values = ValueList::new(alloc);
     for value in tuple.values.as_slice() {
         values.push(follow(alloc, thread.steps.as_slice(), value)?)?;

@@ -93,9 +93,7 @@ fn advance(
     match what_next(program, choices) {
         Next::Step(choice) => {
             let before = program.nulls();
-            thread
-                .steps
-                .push(make(alloc, setting, view, program, choice)?)?;
+            thread.add(make(alloc, setting, view, program, choice)?)?;
             name_drawn(alloc, setting, names, thread, program, before)?;
             Ok(None)
         }

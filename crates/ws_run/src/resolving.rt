@@ -6,6 +6,7 @@ use set_facts::IndexedFacts;
 use std::alloc::Global;
 use ws_ground::{FIX, Ground};
 use ws_lines::{Spelled, SpelledTuple};
+use ws_names::has_null;
 
 /// The value with the null in place of its name; halts if no tuple has the unknown.
 pub(crate) fn found(alloc: Global, ground: &Ground, value: &Value) -> Result<Value, Halt> {
@@ -63,10 +64,19 @@ pub(crate) fn found_tuples(
 ) -> Result<TupleList, Halt> {
     let mut all = TupleList::new(alloc);
     for tuple in tuples {
-        let values = found_all(alloc, ground, tuple.values.as_slice())?;
-        all.push(Tuple::new(alloc, tuple.relation, values)?)?;
+        all.push(found_tuple(alloc, ground, tuple)?)?;
     }
     Ok(all)
+}
+
+// The tuple with nulls in place of names; halts if no tuple has one of the unknowns. Without an unknown it is the same tuple, which
+// is shared.
+fn found_tuple(alloc: Global, ground: &Ground, tuple: &Tuple) -> Result<Tuple, Halt> {
+    if !has_null(tuple) {
+        return Ok(tuple.share()?);
+    }
+    let values = found_all(alloc, ground, tuple.values.as_slice())?;
+    Ok(Tuple::new(alloc, tuple.relation, values)?)
 }
 
 /// The tuples of a line with nulls in place of names. Its new unknowns were drawn by the ops after number `first`.
@@ -78,11 +88,26 @@ pub(crate) fn found_spelled(
 ) -> Result<TupleList, Halt> {
     let mut all = TupleList::new(alloc);
     for tuple in tuples {
-        let mut values = ValueList::new(alloc);
-        for value in tuple.values.as_slice() {
-            values.push(found_value(alloc, ground, first, value)?)?;
-        }
-        all.push(Tuple::new(alloc, tuple.relation, values)?)?;
+        all.push(match tuple {
+            SpelledTuple::Known(tuple) => found_tuple(alloc, ground, tuple)?,
+            SpelledTuple::New(relation, values) => {
+                let values = found_values(alloc, ground, first, values.as_slice())?;
+                Tuple::new(alloc, *relation, values)?
+            }
+        })?;
+    }
+    Ok(all)
+}
+
+fn found_values(
+    alloc: Global,
+    ground: &Ground,
+    first: u32,
+    values: &[Spelled],
+) -> Result<ValueList, Halt> {
+    let mut all = ValueList::new(alloc);
+    for value in values {
+        all.push(found_value(alloc, ground, first, value)?)?;
     }
     Ok(all)
 }

@@ -148,8 +148,8 @@ fn wait_said(
 
 fn stamp_said(alloc: Global, update: &Update) -> Result<Stamp, Memory> {
     Ok(Stamp {
-        time: string_of(alloc, update.time.as_slice())?,
-        curator: string_of(alloc, update.curator.as_slice())?,
+        time: string_of(alloc, update.saying.time())?,
+        curator: string_of(alloc, update.saying.curator())?,
     })
 }
 

@@ -8,18 +8,18 @@ use crate::texts::bytes_of;
 use base_types::{Choice, Memory, NameList, NumberList};
 use std::alloc::Global;
 use ws_grammar::set_apart;
-use ws_lines::{Asked, Given, Line as Numbered, Table};
-use ws_written::{Answer, Choice as SaidChoice, Line, Relation, Rule, Stamp};
+use ws_lines::{Asked, Given, Line as Numbered, Saying, Table};
+use ws_written::{Answer, Choice as SaidChoice, Line, Relation, Rule};
 
 /// The line in the state's form; None if it names a mapping that is not there.
 pub(crate) fn line_of(
     alloc: Global,
     rules: &[Rule],
-    stamp: &Stamp,
+    saying: &Saying,
     line: &Line,
 ) -> Result<Option<Numbered>, Memory> {
     Ok(match line {
-        Line::Update(update) => match update_of(alloc, rules, stamp, update)? {
+        Line::Update(update) => match update_of(alloc, rules, saying, update)? {
             Some(update) => Some(Numbered::Update(update)),
             None => None,
         },

@@ -103,7 +103,7 @@ impl Space {
     /// Who said an update; empty if there is none.
     pub fn curator_of(&self, number: u32) -> &str {
         match self.state.update(number) {
-            Some(update) => text_of(update.curator.as_slice()),
+            Some(update) => text_of(update.saying.curator()),
             None => "",
         }
     }
@@ -111,7 +111,7 @@ impl Space {
     /// When an update was said; empty if there is none.
     pub fn time_of(&self, number: u32) -> &str {
         match self.state.update(number) {
-            Some(update) => text_of(update.time.as_slice()),
+            Some(update) => text_of(update.saying.time()),
             None => "",
         }
     }

@@ -7,8 +7,9 @@ use crate::spaces::Space;
 use base_types::Memory;
 use std::alloc::{AllocError, AllocFailed, Global};
 use ws_grammar::{read_head, read_line, read_stamp};
+use ws_lines::Saying;
 use ws_state::State;
-use ws_written::{Head, Record, Rule, SaidLine, Stamp};
+use ws_written::{Head, Record, Rule, SaidLine};
 
 /// Why texts cannot be opened: want of memory, or the text at this place is neither head nor record.
 #[derive(Clone, Copy, Debug, PartialEq, Eq)]
@@ -96,10 +97,7 @@ impl Space {
             created: head.created,
             first: head.at,
             folded: head.last,
-            stamp: Stamp {
-                time: String::new(alloc),
-                curator: String::new(alloc),
-            },
+            saying: Saying::none(),
             changed: Changed::new(alloc),
             keeps_lines: true,
         }

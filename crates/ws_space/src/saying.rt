@@ -27,7 +27,7 @@ impl Space {
             return Ok(None);
         }
         self.declare(alloc, line)?;
-        let Some(meant) = line_of(alloc, self.rules.as_slice(), &self.stamp, line)? else {
+        let Some(meant) = line_of(alloc, self.rules.as_slice(), &self.saying, line)? else {
             return Ok(None);
         };
         let stood = self.state.order().len();

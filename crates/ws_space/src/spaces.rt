@@ -1,9 +1,10 @@
 //! The workspace in memory, and its records.
 
 use crate::changed::Changed;
-use crate::texts::number;
+use crate::texts::{number, saying_of};
 use base_types::Memory;
 use std::alloc::Global;
+use ws_lines::Saying;
 use ws_state::State;
 use ws_written::{Record, Relation, Rule, Stamp};
 
@@ -30,7 +31,7 @@ pub struct Space {
     pub first: u32,
     pub folded: u32,
     // Who says the lines that are taken, and when.
-    pub(crate) stamp: Stamp,
+    pub(crate) saying: Saying,
     // What the lines that are not recorded yet did.
     pub(crate) changed: Changed,
     // Whether to keep the lines of records that are read.
@@ -48,10 +49,7 @@ impl Space {
             created,
             first: 0,
             folded: 0,
-            stamp: Stamp {
-                time: String::new(alloc),
-                curator: String::new(alloc),
-            },
+            saying: Saying::none(),
             changed: Changed::new(alloc),
             keeps_lines: true,
         })
@@ -64,10 +62,7 @@ impl Space {
 
     /// Sets the time and the curator of the lines that are taken from now on.
     pub fn say_as(&mut self, alloc: Global, time: &str, curator: &str) -> Result<(), Memory> {
-        self.stamp = Stamp {
-            time: String::from_str(alloc, time)?,
-            curator: String::from_str(alloc, curator)?,
-        };
+        self.saying = saying_of(alloc, time, curator)?;
         Ok(())
     }
 

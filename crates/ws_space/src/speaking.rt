@@ -14,7 +14,7 @@ fn is_among(tuples: &[Tuple], relation: u32) -> bool {
 
 fn is_among_spelled(tuples: &[SpelledTuple], relation: u32) -> bool {
     for tuple in tuples {
-        if u32::from(tuple.relation) == relation {
+        if u32::from(tuple.relation()) == relation {
             return true;
         }
     }
@@ -27,7 +27,7 @@ pub fn speaks_of(deed: &Deed, relation: u32) -> bool {
         Deed::Insert(tuples) => is_among_spelled(tuples.as_slice(), relation),
         Deed::Delete(tuples) => is_among(tuples.as_slice(), relation),
         Deed::Swap(old, new) => {
-            u32::from(old.relation) == relation || u32::from(new.relation) == relation
+            u32::from(old.relation) == relation || u32::from(new.relation()) == relation
         }
         _ => false,
     }

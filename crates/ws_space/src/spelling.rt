@@ -6,16 +6,18 @@ use crate::naming::{
 };
 use crate::sources::{name_of, number_of};
 use crate::texts::{bytes_of, small, text_of};
-use base_types::{Memory, Name, NameList};
+use base_types::{Memory, Name, NameList, Tuple, ValueList};
 use std::alloc::Global;
-use ws_lines::{Deed, Spelled, SpelledList, SpelledTuple, SpelledTupleList, Update as Numbered};
-use ws_written::{NewFact, NewValue, NumberedUpdate, Rule, Stamp, Update};
+use ws_lines::{
+    Deed, Saying, Spelled, SpelledList, SpelledTuple, SpelledTupleList, Update as Numbered,
+};
+use ws_written::{NewFact, NewValue, NumberedUpdate, Rule, Update};
 
 /// The update in the state's form; None if it names a mapping that is not there.
 pub(crate) fn update_of(
     alloc: Global,
     rules: &[Rule],
-    stamp: &Stamp,
+    saying: &Saying,
     said: &NumberedUpdate,
 ) -> Result<Option<Numbered>, Memory> {
     let mut news = NameList::new(alloc);
@@ -24,9 +26,8 @@ pub(crate) fn update_of(
     };
     Ok(Some(Numbered {
         number: said.number,
-        time: bytes_of(alloc, stamp.time.as_str())?,
-        curator: bytes_of(alloc, stamp.curator.as_str())?,
         steps: said.steps,
+        saying: saying.share()?,
         deed,
         news,
     }))
@@ -76,6 +77,41 @@ fn spelled_all(
 }
 
 fn spelled(alloc: Global, fact: &NewFact, news: &mut NameList) -> Result<SpelledTuple, Memory> {
+    match known_tuple(alloc, fact)? {
+        Some(tuple) => Ok(SpelledTuple::Known(tuple)),
+        None => spelled_with(alloc, fact, news),
+    }
+}
+
+// The tuple by names; None if it has a new unknown.
+fn known_tuple(alloc: Global, fact: &NewFact) -> Result<Option<Tuple>, Memory> {
+    if fact.values.iter().any(|value| is_new(value)) {
+        return Ok(None);
+    }
+    let mut values = Vec::with_capacity(alloc, fact.values.len())?;
+    for value in &fact.values {
+        if let NewValue::Known(known) = value {
+            values.push(named_value(alloc, known)?)?;
+        }
+    }
+    let values = ValueList::from_vec(values);
+    Ok(Some(Tuple::new(alloc, small(fact.relation), values)?))
+}
+
+fn is_new(value: &NewValue) -> bool {
+    match value {
+        NewValue::Known(_) => false,
+        NewValue::Fresh => true,
+        NewValue::Named(_) => true,
+    }
+}
+
+// The tuple with its new unknowns, whose names are added.
+fn spelled_with(
+    alloc: Global,
+    fact: &NewFact,
+    news: &mut NameList,
+) -> Result<SpelledTuple, Memory> {
     let mut values = Vec::with_capacity(alloc, fact.values.len())?;
     for value in &fact.values {
         values.push(match value {
@@ -86,10 +122,7 @@ fn spelled(alloc: Global, fact: &NewFact, news: &mut NameList) -> Result<Spelled
             }
         })?;
     }
-    Ok(SpelledTuple {
-        relation: small(fact.relation),
-        values: SpelledList::from_vec(values),
-    })
+    Ok(SpelledTuple::New(small(fact.relation), SpelledList::from_vec(values)))
 }
 
 // The number of the new unknown with this name. A name that is not there yet is added.
@@ -144,17 +177,37 @@ fn new_facts(
 }
 
 fn new_fact(alloc: Global, tuple: &SpelledTuple, news: &NameList) -> Result<NewFact, Memory> {
+    let values = match tuple {
+        SpelledTuple::Known(tuple) => known_values(alloc, tuple)?,
+        SpelledTuple::New(_, values) => new_values(alloc, values.as_slice(), news)?,
+    };
+    Ok(NewFact {
+        relation: u32::from(tuple.relation()),
+        values,
+    })
+}
+
+fn known_values(alloc: Global, tuple: &Tuple) -> Result<Vec<NewValue>, Memory> {
     let mut values = Vec::new(alloc);
     for value in tuple.values.as_slice() {
+        values.push(NewValue::Known(said_value(alloc, value)?))?;
+    }
+    Ok(values)
+}
+
+fn new_values(
+    alloc: Global,
+    spelled: &[Spelled],
+    news: &NameList,
+) -> Result<Vec<NewValue>, Memory> {
+    let mut values = Vec::new(alloc);
+    for value in spelled {
         values.push(match value {
             Spelled::Known(known) => NewValue::Known(said_value(alloc, known)?),
             Spelled::New(number) => new_value(alloc, *number, news)?,
         })?;
     }
-    Ok(NewFact {
-        relation: u32::from(tuple.relation),
-        values,
-    })
+    Ok(values)
 }
 
 fn new_value(alloc: Global, number: u32, news: &NameList) -> Result<NewValue, Memory> {

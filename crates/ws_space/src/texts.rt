@@ -2,12 +2,20 @@
 
 use base_types::{List, Memory};
 use std::alloc::Global;
+use ws_lines::Saying;
 
 /// The bytes of a text.
 pub(crate) fn bytes_of(alloc: Global, text: &str) -> Result<List<u8>, Memory> {
     let mut bytes = Vec::new(alloc);
     bytes.extend_from_slice(text.as_bytes())?;
     Ok(List::from_vec(bytes))
+}
+
+/// What this curator says at this time.
+pub(crate) fn saying_of(alloc: Global, time: &str, curator: &str) -> Result<Saying, Memory> {
+    let time = bytes_of(alloc, time)?;
+    let curator = bytes_of(alloc, curator)?;
+    Saying::new(alloc, time, curator)
 }
 
 /// The bytes as a text; empty if they are no text.

@@ -5,7 +5,7 @@ use crate::naming::{named_tuples, named_values};
 use crate::rules::number_among;
 use crate::sources::source_of;
 use crate::spelling::update_of;
-use crate::texts::bytes_of;
+use crate::texts::{bytes_of, saying_of};
 use base_types::{MappingList, Memory, Tuple, TupleList, Value, ValueList};
 use std::alloc::Global;
 use ws_lines::{GivenList, Source};
@@ -43,7 +43,9 @@ fn wait_of(
     let Some(answers) = answers_of(alloc, rules, waiting.answers.as_slice())? else {
         return Ok(None);
     };
-    let Some(update) = update_of(alloc, rules, &waiting.stamp, &waiting.update)? else {
+    let stamp = &waiting.stamp;
+    let saying = saying_of(alloc, stamp.time.as_str(), stamp.curator.as_str())?;
+    let Some(update) = update_of(alloc, rules, &saying, &waiting.update)? else {
         return Ok(None);
     };
     Ok(Some(HeadWaiting {

@@ -113,15 +113,13 @@ fn wait_kept(
 fn update_kept(alloc: Global, numbers: &List<u16>, update: &Update) -> Result<Update, Memory>
     ensures number { IfOk result (λ kept. kept.number ≡ update.now.number) }
 {
-    let time = update.time.copy(alloc)?;
-    let curator = update.curator.copy(alloc)?;
+    let saying = update.saying.share()?;
     let news = update.news.copy(alloc)?;
     let deed = renumbered(alloc, numbers, &update.deed)?;
     Ok(Update {
         number: update.number,
-        time,
-        curator,
         steps: update.steps,
+        saying,
         deed,
         news,
     })

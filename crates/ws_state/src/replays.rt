@@ -268,7 +268,7 @@ fn do_again(
         Said::Update(place) => {
             world.run_again(alloc, declared, held, *place, GivenList::new(alloc))
         }
-        Said::Answer(place, given) => world.take_answer(alloc, declared, held, *place, given),
+        Said::Answer(place, given) => world.take_answer(alloc, declared, held, *place, &**given),
         Said::Go(place) => world.retry(alloc, declared, held, *place),
     }
 }

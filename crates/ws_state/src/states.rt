@@ -27,11 +27,12 @@ pub struct Held {
 /// Held updates: first the updates that waited at the last fold, then the updates of the log.
 pub type HeldList = Vec<Held>;
 
-/// What a line of the log did, if a replay runs it again. Updates are given by their places among the held updates.
+/// What a line of the log did, if a replay runs it again. Updates are given by their places among the held updates. Few lines are
+/// answers, so an answer is held apart.
 #[derive(Drop)]
 pub(crate) enum Said {
     Update(usize),
-    Answer(usize, Given),
+    Answer(usize, Box<Given>),
     Go(usize),
 }
 
@@ -170,7 +171,7 @@ impl State {
         let reason = self
             .world
             .take_answer(alloc, &self.mappings, &mut self.held, place, &given)?;
-        match note(&mut self.events, Said::Answer(place, given)) {
+        match note_answer(alloc, &mut self.events, place, given) {
             Ok(()) => Ok(self.told(place, reason)),
             Err(memory) => {
                 drop(reason);
@@ -273,6 +274,19 @@ fn note(events: &mut Vec<Event>, said: Said) -> Result<(), Memory> {
         is_forgotten: false,
     })?;
     Ok(())
+}
+
+// Notes an answer to the update at this place.
+fn note_answer(
+    alloc: Global,
+    events: &mut Vec<Event>,
+    place: usize,
+    given: Given,
+) -> Result<(), Memory> {
+    match Box::new(alloc, given) {
+        Ok(given) => note(events, Said::Answer(place, given)),
+        Err(_) => Err(Memory),
+    }
 }
 
 // Declares a relation. It takes the place of one with the same name.
