@@ -10,6 +10,8 @@ const QUOTES: &str = "a text stands between two \" signs";
 
 const WHOLE: &str = "numbers are whole; write \"77.50\" as a text";
 
+const DATE: &str = "a date is a text: write \"2026-01-31\"";
+
 const COMMENT: &str = "a comment begins with #";
 
 const ARROW: &str = "a mapping is written LEFT -> RIGHT";
@@ -50,6 +52,19 @@ fn is_decimal_point(rest: &[u8]) -> bool {
     }
 }
 
+// Whether the month and the sign after it stand here, as in 2026-01-31 after the year.
+fn is_month(rest: &[u8]) -> bool {
+    match rest {
+        [sign, tens, ones, again, ..] => {
+            (*sign == b'-' || *sign == b'/')
+                && sign == again
+                && tens.is_ascii_digit()
+                && ones.is_ascii_digit()
+        }
+        _ => false,
+    }
+}
+
 // The hint for a usual slip, if one stands here.
 fn hint_at(rest: &[u8], after_quote: bool) -> Option<&'static str> {
     let letter = first_letter(rest)?;
@@ -57,6 +72,8 @@ fn hint_at(rest: &[u8], after_quote: bool) -> Option<&'static str> {
         Some(QUOTES)
     } else if is_decimal_point(rest) {
         Some(WHOLE)
+    } else if is_month(rest) {
+        Some(DATE)
     } else if rest.starts_with(b"--") {
         Some(COMMENT)
     } else if is_arrow(rest) {

@@ -38,6 +38,8 @@ class Cursor:
                 hint = 'a text stands between two " signs'
             elif found == "." and re.match(r"\.[0-9]", rest):
                 hint = 'numbers are whole; write "77.50" as a text'
+            elif re.match(r"([-/])[0-9]{2}\1", rest):
+                hint = 'a date is a text: write "2026-01-31"'
             elif rest.startswith("--"):
                 hint = "a comment begins with #"
             elif rest.startswith(":-") or rest.startswith("=>") or rest.startswith("<-"):
