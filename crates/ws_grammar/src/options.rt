@@ -71,6 +71,14 @@ impl Options {
     }
 }
 
+// Whether `yt` itself takes an option of this name, in front of its command.
+fn is_of_program(name: &str) -> bool {
+    match name {
+        "as" | "json" | "wait" | "keep-going" | "no-files" => true,
+        _ => false,
+    }
+}
+
 // The option of a verb with this name. `--sqlite` of `export` is not in the list of options that hints show.
 fn option_named(verb: Verb, name: &str) -> Option<Opt> {
     if verb == Verb::Export && name == Opt::Sqlite.name() {
@@ -124,8 +132,11 @@ impl<'a> Cursor<'a> {
         self.refuse(Status::Unread, self.at(), words, hint)
     }
 
-    // The hint: the option that may have been meant, or a list of all.
+    // The hint: where the option stands, the one that may have been meant, or a list of all.
     fn option_hint(&self, verb: Verb, name: &str) -> Result<Option<String>, AllocError> {
+        if is_of_program(name) {
+            return self.hint("options of yt stand in front of the command");
+        }
         if verb.options().is_empty() {
             return self.hint("it has none");
         }

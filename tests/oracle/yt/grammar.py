@@ -6,6 +6,8 @@ from .faults import Fault, mean
 from .printing import control
 from .verbs import CHANGES, OPTIONS, RECORDS, SAME, UNTOLD, VERBS
 
+OF_PROGRAM = ("as", "json", "wait", "keep-going", "no-files")    # options in front of the command
+
 
 class Schema:
     """Names of relations with their columns; a column is (name, whether it belongs to the key)."""
@@ -111,6 +113,13 @@ def query(c, schema):
     return head, atoms
 
 
+def option_hint(name, known):
+    """Where an option that the command has not stands, or what it has."""
+    if name in OF_PROGRAM:
+        return "options of yt stand in front of the command"
+    return mean(name, known) or ("it has " + ", ".join("--" + o for o in known) if known else "it has none")
+
+
 def options(c, verb):
     """{option: value} at the end of the line."""
     known, out = OPTIONS.get(verb, {}), {}
@@ -121,8 +130,7 @@ def options(c, verb):
             c.fail("the end of the line")
         name, at = m.group(1), c.i
         if name not in taken:
-            raise Fault("%s has no option --%s" % (verb, name), at, mean(name, known) or
-                        ("it has " + ", ".join("--" + o for o in known) if known else "it has none"))
+            raise Fault("%s has no option --%s" % (verb, name), at, option_hint(name, known))
         if name in out:
             raise Fault("--%s stands twice" % name, at)
         c.i = m.end()
