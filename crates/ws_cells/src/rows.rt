@@ -49,16 +49,29 @@ pub fn facts_of(
     if all.is_empty() {
         return Ok(loaded);
     }
-    refused(alloc, path, all)
+    refused(alloc, path, fitted.width, all)
 }
 
-fn refused(alloc: Global, path: &str, all: Vec<String>) -> Result<Loaded, Refusal> {
+const SEPARATOR: &str =
+    "the header is one cell; if semicolons stand between the cells: --separator \";\"";
+
+// A file whose header is one cell may be parted by another character.
+fn hint_of(alloc: Global, width: usize) -> Result<Option<String>, AllocError> {
+    if width == 1 {
+        return Ok(Some(String::from_str(alloc, SEPARATOR)?));
+    }
+    Ok(None)
+}
+
+// Refuses the file, whose header has `width` cells, with all its faults.
+fn refused(alloc: Global, path: &str, width: usize, all: Vec<String>) -> Result<Loaded, Refusal> {
     let mut words = Text::new(alloc);
     write!(words, "{path} has ");
     add_count(&mut words, all.len(), "fault");
     words.push_str("; nothing was loaded");
     let words = words.done()?;
-    faults(words, None, all)
+    let hint = hint_of(alloc, width)?;
+    faults(words, hint, all)
 }
 
 // All faults by line; on a line, faults of quotes come first. Both lists are in the order of the file.
