@@ -63,7 +63,7 @@ fn line_of(alloc: Global, name: &str) -> Result<String, AllocError> {
 
 fn refuse_rounds(alloc: Global, name: &str) -> Result<Repaired, Refusal> {
     let words = format!(in alloc;
-        "spent: the repairs of {name} violate it again, ten times over; nothing was changed"
+        "spent: the repairs of {name} violate it anew, ten times over; nothing was changed"
     )?;
     let fault = spent(alloc, words.as_str(), "does it go round for ever?")?;
     Err(Refusal::Fault(fault))

@@ -58,7 +58,7 @@ impl<'a> Cursor<'a> {
 
     // `: LEFT -> RIGHT`.
     fn sides(&mut self, name: String) -> Result<Rule, Refusal> {
-        self.sign(":", ": after the name of the mapping")?;
+        self.sign(":", ": behind the name of the mapping")?;
         let at = self.at();
         let left: Vec<Atom> = self.joined()?;
         self.sign("->", "a comma or ->")?;

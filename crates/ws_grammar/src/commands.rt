@@ -133,7 +133,7 @@ impl<'a> Cursor<'a> {
     // Reads the verb of a command that `try` takes.
     fn tried(&mut self) -> Result<Verb, Refusal> {
         let at = self.at();
-        let word = self.name("a command after try")?;
+        let word = self.name("a command behind try")?;
         match Verb::of(word) {
             Some(verb) if can_be_tried(verb) => Ok(verb),
             _ => {

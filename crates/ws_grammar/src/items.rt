@@ -49,7 +49,7 @@ impl<'a> Cursor<'a> {
         let at = self.at();
         let name = self.name("a relation")?;
         if !self.take_sign("(") {
-            let expected = format!(in self.alloc; "( after {name}")?;
+            let expected = format!(in self.alloc; "( behind {name}")?;
             return self.fail(expected.as_str());
         }
         let items = self.to_bracket()?;

@@ -160,13 +160,13 @@ impl<'a> Cursor<'a> {
 
     fn given_number(&mut self, opt: Opt, low: u32, high: u32) -> Result<u32, Refusal> {
         let name = opt.name();
-        let expected = format!(in self.alloc; "a number after --{name}")?;
+        let expected = format!(in self.alloc; "a number behind --{name}")?;
         self.count(expected.as_str(), low, high)
     }
 
     fn given_word(&mut self, opt: Opt) -> Result<String, Refusal> {
         let name = opt.name();
-        let expected = format!(in self.alloc; "a word after --{name}")?;
+        let expected = format!(in self.alloc; "a word behind --{name}")?;
         self.word(expected.as_str())
     }
 }

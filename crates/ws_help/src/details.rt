@@ -3,7 +3,7 @@
 use ws_command::Verb;
 
 const RELATION: &str =
-    "  1 to 8 columns. A * after a column says that it belongs to the key: `violations` tells of clashes.
+    "  1 to 8 columns. A * behind a column says that it belongs to the key: `violations` tells of clashes.
   The first relation makes the file. Columns can change while nothing speaks of the relation.
 ";
 

@@ -155,7 +155,7 @@ fn no_option<T>(alloc: Global, word: &str) -> Result<T, Refusal> {
         None => wrong(
             alloc,
             words.as_str(),
-            "options of a command stand after it",
+            "options of a command stand behind it",
         ),
     }
 }

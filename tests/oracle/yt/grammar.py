@@ -35,7 +35,7 @@ def fact(c, schema, news=False, any=False):
     at = c.i
     name = c.name("a relation")
     if not c.is_sign("("):
-        c.fail("( after %s" % name)
+        c.fail("( behind %s" % name)
     values = c.many(lambda: c.value(news, any))
     r = schema.find(name, at)
     if len(schema.relations[r][1]) != len(values):
@@ -57,7 +57,7 @@ def atom(c, schema):
         return ("c", v)
 
     if not c.is_sign("("):
-        c.fail("( after %s" % name)
+        c.fail("( behind %s" % name)
     terms = c.many(term)
     r = schema.find(name, at)
     if len(schema.relations[r][1]) != len(terms):
@@ -77,7 +77,7 @@ def plain_name(c, what):
 def rule(c, schema):
     """NAME : LEFT -> RIGHT; each _ is a variable of its own."""
     name = plain_name(c, "a name of the mapping")
-    c.sign(":", ": after the name of the mapping")
+    c.sign(":", ": behind the name of the mapping")
     at = c.i
     left = c.listed(lambda: atom(c, schema))
     c.sign("->", "a comma or ->")
@@ -139,9 +139,9 @@ def options(c, verb):
         if kind is None:
             out[name] = True
         elif kind == "number":
-            out[name] = c.number("a number after --%s" % name, *((0, 2 ** 32 - 1) if name in RECORDS else (1, 1000000)))
+            out[name] = c.number("a number behind --%s" % name, *((0, 2 ** 32 - 1) if name in RECORDS else (1, 1000000)))
         else:
-            out[name] = c.word("a word after --%s" % name)
+            out[name] = c.word("a word behind --%s" % name)
     return out
 
 
@@ -185,7 +185,7 @@ def parse(line, schema, mappings):
 
 def attempt(c, schema, mappings):
     at = c.i
-    verb = c.name("a command after try")
+    verb = c.name("a command behind try")
     if verb not in CHANGES - {"fold"}:
         raise Fault("try takes a command that changes something", at, mean(verb, CHANGES - {"fold"}))
     inner = body(c, verb, schema, mappings)

@@ -53,7 +53,7 @@ def words_of(argv):
             opts[k] = v
         elif w.startswith("-") and w != "-":
             raise T.Fault("there is no option %s" % w, None, T.mean(w, ["--json", "--as", "--wait", "--keep-going", "--no-files",
-                                                                      "--help", "--version"]) or "options of a command stand after it")
+                                                                      "--help", "--version"]) or "options of a command stand behind it")
         elif path is None:
             path = w
         else:

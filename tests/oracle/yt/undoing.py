@@ -80,7 +80,7 @@ class Undoing:
                     asks.append((item, stop))
                     waiting.add(line)
         else:
-            raise T.Fault("spent: the repairs of %s violate it again, ten times over; nothing was changed" % name, None,
+            raise T.Fault("spent: the repairs of %s violate it anew, ten times over; nothing was changed" % name, None,
                           "does it go round for ever?", SPENT)
         left = s.violations(name)
         number = None
