@@ -7,6 +7,7 @@ pub mod Seen
 pub mod Numbered
 pub mod Standings
 pub mod Setting
+pub mod Drawing
 pub mod Scanning
 pub mod Writing
 pub mod Holding

@@ -93,15 +93,15 @@ module _ {K : Type 0} {R : K → K → Ordering} (o : IsTotalOrder R) (test : K 
       by true h = ap (λ f. unwrap_or f no_marks) (look_without o test one es k) ∙ gone (test k) (look test es) h
       by false h = ap (λ f. unwrap_or f no_marks) (look_insert o test one es k m) ∙ there (test k) (look test es)
 
--- ---- what holds of all values
+-- ---- what holds of all entries
 
-all_insert : {K V : Type 0} (R : K → K → Ordering) (P : V → Type 0) (es : List (K × V)) (k : K) (v : V) → AllByRecursion (λ (e : K × V). P e.1) es → P v → AllByRecursion (λ (e : K × V). P e.1) (insert_entry R es k v)
-all_insert R P [] k v a p = (p, tt)
-all_insert {K} {V} R P (e ∷ es) k v a p = by (R k e.0) (all_insert R P es k v a.1 p)
+all_insert : {K V : Type 0} (R : K → K → Ordering) (P : K × V → Type 0) (es : List (K × V)) (k : K) (v : V) → AllByRecursion P es → P (k, v) → ((x : K) (w : V) → P (x, w) → P (x, v)) → AllByRecursion P (insert_entry R es k v)
+all_insert R P [] k v a p put = (p, tt)
+all_insert {K} {V} R P (e ∷ es) k v a p put = by (R k e.0) (all_insert R P es k v a.1 p put)
   where
-    by : (o : Ordering) → AllByRecursion (λ (e : K × V). P e.1) (insert_entry R es k v) → AllByRecursion (λ (e : K × V). P e.1) (match_ordering o ((k, v) ∷ e ∷ es) ((e.0, v) ∷ es) (e ∷ insert_entry R es k v))
+    by : (o : Ordering) → AllByRecursion P (insert_entry R es k v) → AllByRecursion P (match_ordering o ((k, v) ∷ e ∷ es) ((e.0, v) ∷ es) (e ∷ insert_entry R es k v))
     by Less i = (p, a)
-    by Equal i = (p, a.1)
+    by Equal i = (put e.0 e.1 a.0, a.1)
     by Greater i = (a.0, i)
 
 all_filter : {X : Type 0} (P : X → Type 0) (p : X → Bool) (xs : List X) → AllByRecursion P xs → AllByRecursion P (filter p xs)
@@ -112,9 +112,10 @@ all_filter P p (x ∷ xs) a = by (p x) (all_filter P p xs a.1)
     by true i = (a.0, i)
     by false i = i
 
-pub all_set : {K : Type 0} (R : K → K → Ordering) (P : Marks → Type 0) (es : List (K × Marks)) (k : K) (m : Marks) → AllByRecursion (λ (e : K × Marks). P e.1) es → P m → AllByRecursion (λ (e : K × Marks). P e.1) (set_entry R es k m)
-all_set {K} R P es k m a p = by (is_nowhere m)
+-- What holds of each entry holds after marks are set, if it holds of the new entry and of each key with the new marks.
+pub all_set : {K : Type 0} (R : K → K → Ordering) (P : K × Marks → Type 0) (es : List (K × Marks)) (k : K) (m : Marks) → AllByRecursion P es → P (k, m) → ((x : K) (n : Marks) → P (x, n) → P (x, m)) → AllByRecursion P (set_entry R es k m)
+all_set {K} R P es k m a p put = by (is_nowhere m)
   where
-    by : (b : Bool) → AllByRecursion (λ (e : K × Marks). P e.1) (cond b (without R k es) (insert_entry R es k m))
-    by true = all_filter (λ (e : K × Marks). P e.1) _ es a
-    by false = all_insert R P es k m a p
+    by : (b : Bool) → AllByRecursion P (cond b (without R k es) (insert_entry R es k m))
+    by true = all_filter P _ es a
+    by false = all_insert R P es k m a p put

@@ -188,7 +188,7 @@ index_empty {rows} {cells} e f c t =
 
 -- Rows stay rows.
 pub rows_set : (old : List (Tuple × Marks)) {new : List (Tuple × Marks)} (k : Tuple) (m : Marks) → new ≡ set_entry (on fact_of fact_cmp) old k m → IsOrdered (on fact_of fact_cmp) new → AllMarked old → AreMarks m → AreRows new
-rows_set old k m set order marks own = record { order = order; marks = subst AllMarked (sym set) (all_set (on fact_of fact_cmp) AreMarks old k m marks own) }
+rows_set old k m set order marks own = record { order = order; marks = subst AllMarked (sym set) (all_set (on fact_of fact_cmp) (λ (e : Tuple × Marks). AreMarks e.1) old k m marks own (λ _ _ _. own)) }
 
 -- No rows are rows.
 pub rows_empty : {rows : List (Tuple × Marks)} → rows ≡ [] → AreRows rows

@@ -2,6 +2,7 @@ pub mod Trails
 pub mod Unders
 pub mod Chains
 pub mod Marked
+pub mod Drawn
 pub mod Based
 pub mod Touches
 pub mod Cells

@@ -10,7 +10,7 @@ use crate::edits::set;
 use crate::handles::Handle;
 use crate::indexes::{indexed, shared};
 use crate::marks::Marks;
-use crate::nulls::WithNull;
+use crate::nulls::{WithNull, raised};
 use crate::scans::Scan;
 use crate::searches::{Beyond, Further, Held, Lead, Written, Zone};
 use crate::spots::spot;
@@ -24,10 +24,12 @@ use std::mem;
 
 /// Tuples with their marks, in order, and an index of them by cells. Contracts see the tuples with their marks. The index is
 /// changed in place, and dropped if memory runs out during a change. Without it a search goes through all tuples of a relation.
+/// No update above `newest` drew a null that a row holds, so a search for such a null ends at once.
 #[derive(Drop)]
 pub struct Table {
     rows: TreeMap<Handle, Marks>,
     index: Option<Spots>,
+    newest: u32,
 }
 
 impl Model for Table {
@@ -38,11 +40,13 @@ impl Model for Table {
     ghost Value = { List (Tuple × Marks) };
 
     ghost use Rattle.set_versions.specs.Chains.{AreRows};
+    ghost use Rattle.set_versions.specs.Drawn.{AreDrawnUpTo};
     ghost use Rattle.set_versions.specs.Indexed.{IsIndexed};
 
     ghost view = { λ t. t.rows };
 
-    ghost invariant = { λ t. AreRows t.rows × IsIndexed t.rows t.index };
+    ghost invariant = { λ t.
+        AreRows t.rows × IsIndexed t.rows t.index × AreDrawnUpTo t.newest t.rows };
 }
 
 impl Table {
@@ -56,6 +60,7 @@ impl Table {
         Table {
             rows: TreeMap::new(),
             index: Some(Spread::none()),
+            newest: 0,
         }
     }
 
@@ -74,6 +79,7 @@ impl Table {
         Ok(Table {
             rows: self.rows.share()?,
             index: shared(&self.index)?,
+            newest: self.newest,
         })
     }
 
@@ -85,6 +91,7 @@ impl Table {
         Ok(Table {
             rows: self.rows.share()?,
             index: mem::replace(&mut self.index, None),
+            newest: self.newest,
         })
     }
 
@@ -115,8 +122,10 @@ impl Table {
     {
         let index = mem::replace(&mut self.index, None);
         let index = indexed(index, alloc, &key, &marks)?;
+        let newest = raised(self.newest, key.get());
         set(&mut self.rows, alloc, key, marks)?;
         self.index = index;
+        self.newest = newest;
         Ok(())
     }
 }
@@ -179,6 +188,9 @@ impl Table {
             (option_map fact_of (option_copied past.entry))) (visible number self.now) }
         ensures in_order { IsRepository (visible number self.now) }
     {
+        if self.newest < name.update {
+            return None;
+        }
         tuple_in(self.rows.find_in(&WithNull { number, name, past }))
     }
 

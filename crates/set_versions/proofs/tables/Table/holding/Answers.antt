@@ -5,6 +5,7 @@ use Rattle.base_types.specs.Meanings.{fact_of}
 use Rattle.def_chase.specs.Queries.{holds_null}
 use Rattle.set_versions.specs.Marked.{visible, stands}
 use Rattle.set_versions.specs.Zones.{place_beyond}
+use Rattle.set_versions.proofs.Drawing.{none_holding}
 use Rattle.set_versions.proofs.Seeing.{seen_by, holding_same, seen_in_order}
 use Rattle.set_versions.proofs.tables.Table.holding.Goals as goal
 
@@ -19,3 +20,15 @@ returns-clause-found c =
 
 pub returns-clause-in_order : goal.returns-clause-in_order
 returns-clause-in_order c = seen_in_order c.args.number c.self.view_is c.find_in.ensures.in_order
+
+pub returns-then-self-name-clause-found : goal.returns-then-self-name-clause-found
+returns-then-self-name-clause-found c =
+    let n = c.args.number in
+    let u = c.args.name.update in
+    let k = c.args.name.place in
+    let past = option_map fact_of (option_copied c.args.past) in
+    none_holding n c.self.inside.newest u k past c.self.inside.rows c.self.invariant.2 c.if-self-name.true
+    ∙ ap (λ es. find (is_holding u k past) (visible n es)) c.self.view_is
+
+pub returns-then-self-name-clause-in_order : goal.returns-then-self-name-clause-in_order
+returns-then-self-name-clause-in_order c = seen_in_order c.args.number c.self.view_is c.self.invariant.0.order
