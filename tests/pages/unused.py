@@ -18,10 +18,8 @@ KEPT = {
     "core_engine.drained": "an opened and drained core gives the serial run, whatever the settings",
     "def_machine.proofs.Sessions.committed_alike": "a law of the crate's README",
     "run_laws.proofs.Serial.ms": "a word of its module for the mappings of the session",
-    "set_versions.fold": "the state that versions stand for, folded into a base",
     "set_versions.proofs.Sent.held_send": "versions may be sent to another thread",
     "set_versions.proofs.Sent.held_sync": "versions may be read by several threads",
-    "set_versions.wrote": "whether an update has written, as the versions tell it",
 }
 
 # Crates that grow: their public items may be there before the first caller.

@@ -9,7 +9,6 @@ pub mod Standings
 pub mod Setting
 pub mod Drawing
 pub mod Scanning
-pub mod Writing
 pub mod Holding
 pub mod Knowing
 pub mod Taking

@@ -1,28 +1,25 @@
--- What versions stand for, after writes are published, taken back, or put into the base.
-use Rattle.std.proofs.Common.{◌≡◌, ℕ, ◌<◌, ◌⊎◌, ap, refl, sym, ◌∙◌, subst, List, [], ◌∷◌, ◌++◌, Bool, true, false, not, ◌&&◌, ◌||◌, cond, find, Option, Some, None, inl, inr}
+-- What versions stand for, after writes are published or taken back.
+use Rattle.std.proofs.Common.{◌≡◌, ℕ, ◌<◌, ◌⊎◌, ap, refl, sym, ◌∙◌, subst, List, [], ◌∷◌, ◌++◌, Bool, true, false, not, ◌&&◌, cond, Option, Some, None, inl, inr}
 use Rattle.std.proofs.lemmas.Bool.{cases_eq}
 use Rattle.std.proofs.lemmas.Cmp.{ranked}
 use Rattle.std.specs.Cmp.{IsTotalOrder, Equal-is, on_total, back_total, nat_cmp_total, tied_itself}
-use Rattle.std.specs.Option.{option_map, option_or}
+use Rattle.std.specs.Option.{option_or}
 use Rattle.std.specs.Ordering.{is_eq, nat_cmp, MatchOrdering}
 use Rattle.std.specs.declared.cmp.Ordering.{Ordering}
 use Rattle.std.specs.declared.cmp.Ordering.TheVariants.{Less, Equal, Greater}
 use Rattle.std.specs.declared.cmp.Reverse.{Reverse}
 use Rattle.def_chase.specs.Values.{Fact, same_fact}
-use Rattle.def_chase.specs.Repository.{Change, Insert, Delete, IsRepository, has, inserted_after}
-use Rattle.def_chase.proofs.Bools.{and-true, and-false}
-use Rattle.def_chase.proofs.Sets.{has-apply}
-use Rattle.base_tree.specs.Orders.{is_at, without}
+use Rattle.def_chase.specs.Repository.{Change, Insert, Delete, IsRepository, has}
 use Rattle.set_versions.specs.Chains.{newest_cmp, AreRows}
 use Rattle.set_versions.specs.Marked.{marks_at, no_marks}
 use Rattle.std.specs.List.Sorted.{IsStrictlySortedBy}
 use Rattle.base_types.specs.declared.tuples.Tuple.{Tuple}
-use Rattle.set_versions.specs.Standing.{AreKept, Kept, known_at, StandFor, Published, Retracted, Folded, mark_in, written, last_written}
+use Rattle.set_versions.specs.Standing.{AreKept, Kept, known_at, StandFor, Published, Retracted, mark_in, written, last_written}
 use Rattle.set_versions.specs.Based.{base_marks}
-use Rattle.set_versions.specs.Touches.{touched, written_at, unwritten_at, published_at, retracted_at, settled_at, folded_at}
-use Rattle.set_versions.specs.Trails.{SameBut, no_trails}
+use Rattle.set_versions.specs.Touches.{touched, written_at, unwritten_at, published_at, retracted_at}
+use Rattle.set_versions.specs.Trails.{no_trails}
 use Rattle.set_versions.specs.declared.marks.Marks.{Marks}
-use Rattle.set_versions.specs.declared.marks.Touch.TheVariants.{Mark, Unmark, Settle}
+use Rattle.set_versions.specs.declared.marks.Touch.TheVariants.{Mark, Unmark}
 use Rattle.set_versions.proofs.Looking.{look_insert, look_without}
 
 -- ---- one marker
@@ -146,69 +143,23 @@ retracted_own n (Delete s ∷ ws) t m h = by (same_fact t s) h (retracted_own n 
     by true h i = stays_none n ws t (touched (Unmark n) m) (unmarked_own n m)
     by false h i = i h
 
-module _ (n : ℕ) (ws : List Change) (old new : Kept) (made : (v : ℕ) (t : Fact) → mark_in (known_at new t) v ≡ mark_in (retracted_at n ws t (known_at old t)) v) where
-  module _ {D : List Fact} {before after : ℕ → List Change} (stood : StandFor old D before) (its : before n ≡ ws) (gone : after n ≡ []) (others : SameBut n before after) where
-    gone_marks : (v : ℕ) (t : Fact) → (v ≡ n) ⊎ (v ≡ n → ⊥) → mark_in (known_at new t) v ≡ last_written None (after v) t
-    gone_marks v t (inl e) =
-        let P : ℕ → Type 0 = λ k. mark_in (known_at new t) k ≡ last_written None (after k) t in
-        subst P (sym e)
-        (made n t
-        ∙ retracted_own n ws t (known_at old t) (stood.marks n t ∙ ap (λ (xs : List Change). last_written None xs t) its)
-        ∙ ap (λ (xs : List Change). last_written None xs t) (sym gone))
-    gone_marks v t (inr h) =
-        made v t ∙ retracted_keeps (λ m. mark_in m v) n (λ m. unmarked_other n v m h) ws t (known_at old t)
-        ∙ stood.marks v t ∙ ap (λ (xs : List Change). last_written None xs t) (sym (others v h))
-
 module _ (n : ℕ) (ws : List Change) (old new : Kept) (kept : AreKept new) (made : (t : Fact) → known_at new t ≡ retracted_at n ws t (known_at old t)) where
   pub retracted_stands : Retracted n ws old new
   retracted_stands D before after stood its gone others = record {
     kept = kept;
     base = λ t. ap (λ (m : Marks). m.in_base) (made t) ∙ retracted_keeps (λ (m : Marks). m.in_base) n (λ m. refl) ws t (known_at old t) ∙ stood.base t;
-    marks = λ v t. gone_marks n ws old new (λ k u. ap (λ m. mark_in m k) (made u)) stood its gone others v t (cases_eq v n);
+    marks = λ v t. marks v t (cases_eq v n);
   }
-
--- ---- gone over into the base
-
-settled_base : (n : ℕ) (ws : List Change) (t : Fact) (m : Marks) → (folded_at n ws t m).in_base ≡ inserted_after m.in_base ws t
-settled_base n [] t m = refl
-settled_base n (Insert s ∷ ws) t m = settled_base n ws t (settled_at n (Insert s) t m) ∙ ap (λ b. inserted_after b ws t) (by (same_fact t s))
-  where
-    by : (c : Bool) → (cond c (touched (Settle n true) m) m).in_base ≡ (c || m.in_base)
-    by true = refl
-    by false = refl
-settled_base n (Delete s ∷ ws) t m = settled_base n ws t (settled_at n (Delete s) t m) ∙ ap (λ b. inserted_after b ws t) (by (same_fact t s))
-  where
-    by : (c : Bool) → (cond c (touched (Settle n false) m) m).in_base ≡ (m.in_base && not c)
-    by true = sym (and-false m.in_base)
-    by false = sym (and-true m.in_base)
-
--- Of the markers as much goes as where the writes are taken back.
-settled_chain : (n : ℕ) (ws : List Change) (t : Fact) (m k : Marks) → m.chain ≡ k.chain → (folded_at n ws t m).chain ≡ (retracted_at n ws t k).chain
-settled_chain n [] t m k e = e
-settled_chain n (Insert s ∷ ws) t m k e = settled_chain n ws t (settled_at n (Insert s) t m) (unwritten_at n (Insert s) t k) (by (same_fact t s))
-  where
-    by : (c : Bool) → (cond c (touched (Settle n true) m) m).chain ≡ (cond c (touched (Unmark n) k) k).chain
-    by true = ap (without newest_cmp (record { 0 = n })) e
-    by false = e
-settled_chain n (Delete s ∷ ws) t m k e = settled_chain n ws t (settled_at n (Delete s) t m) (unwritten_at n (Delete s) t k) (by (same_fact t s))
-  where
-    by : (c : Bool) → (cond c (touched (Settle n false) m) m).chain ≡ (cond c (touched (Unmark n) k) k).chain
-    by true = ap (without newest_cmp (record { 0 = n })) e
-    by false = e
-
-module _ (n : ℕ) (ws : List Change) (old new : Kept) (kept : AreKept new) (made : (t : Fact) → known_at new t ≡ folded_at n ws t (known_at old t)) where
-  marked : (v : ℕ) (t : Fact) → mark_in (known_at new t) v ≡ mark_in (retracted_at n ws t (known_at old t)) v
-  marked v t =
-      ap (λ m. mark_in m v) (made t)
-      ∙ ap (λ c. option_map (λ (e : Reverse ℕ × Bool). e.1) (find (is_at newest_cmp (record { 0 = v })) c)) (settled_chain n ws t (known_at old t) (known_at old t) refl)
-
-  pub folded_stands : Folded n ws old new
-  folded_stands D before after stood its gone others = record {
-    kept = kept;
-    base = λ t.
-        ap (λ (m : Marks). m.in_base) (made t) ∙ settled_base n ws t (known_at old t) ∙ ap (λ b. inserted_after b ws t) (stood.base t) ∙ sym (has-apply D ws t);
-    marks = λ v t. gone_marks n ws old new marked stood its gone others v t (cases_eq v n);
-  }
+    where
+      marks : (v : ℕ) (t : Fact) → (v ≡ n) ⊎ (v ≡ n → ⊥) → mark_in (known_at new t) v ≡ last_written None (after v) t
+      marks v t (inl e) =
+          let P : ℕ → Type 0 = λ k. mark_in (known_at new t) k ≡ last_written None (after k) t in
+          subst P (sym e)
+          (ap (λ m. mark_in m n) (made t) ∙ retracted_own n ws t (known_at old t) (stood.marks n t ∙ ap (λ (xs : List Change). last_written None xs t) its)
+          ∙ ap (λ (xs : List Change). last_written None xs t) (sym gone))
+      marks v t (inr h) =
+          ap (λ m. mark_in m v) (made t) ∙ retracted_keeps (λ m. mark_in m v) n (λ m. unmarked_other n v m h) ws t (known_at old t)
+          ∙ stood.marks v t ∙ ap (λ (xs : List Change). last_written None xs t) (sym (others v h))
 
 -- ---- the base alone
 

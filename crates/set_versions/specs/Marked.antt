@@ -1,27 +1,16 @@
 -- The meaning of the marks of a tuple, and the tuples that an update sees.
 use Rattle.std.specs.Prelude.{ℕ, ◌==◌, Bool, false, not, ◌&&◌, cond, List, [], Option, Some, None, filter, find, map, unwrap_or, length}
-use Rattle.std.specs.Option.{is_some, option_map}
+use Rattle.std.specs.Option.{option_map}
 use Rattle.base_types.specs.declared.tuples.Tuple.{Tuple}
 use Rattle.base_types.specs.Meanings.{fact_of}
-use Rattle.def_chase.specs.Cursors.{is_of}
 use Rattle.def_chase.specs.Values.{Fact, same_fact}
-use Rattle.base_tree.specs.Orders.{is_at}
 use Rattle.set_facts.specs.Places.{is_from}
-use Rattle.set_versions.specs.Chains.{newest_cmp}
 use Rattle.set_versions.specs.Unders.{is_under}
 use Rattle.set_versions.specs.declared.marks.Marks.{Marks}
 
 -- Whether update n sees the tuple: the last marker of a lower update decides, or the base if there is none.
 abbrev pub stands : ℕ → Marks → Bool
 stands n m = unwrap_or (option_map (λ e. e.1) (find (λ e. is_under n e.0) m.chain)) m.in_base
-
--- Whether update n wrote the tuple.
-abbrev pub is_marked : ℕ → Marks → Bool
-is_marked n m = is_some (find (is_at newest_cmp (record { 0 = n })) m.chain)
-
--- Whether the row is of a tuple of relation r that update n wrote.
-abbrev pub is_row_by : ℕ → ℕ → Tuple × Marks → Bool
-is_row_by n r e = is_of r (fact_of e.0) && is_marked n e.1
 
 -- The marks of a tuple that is nowhere.
 abbrev pub no_marks : Marks

@@ -14,7 +14,7 @@ use Rattle.set_facts.specs.Overlaid.{overlaid}
 use Rattle.set_versions.specs.Based.{base_marks}
 use Rattle.set_versions.specs.Chains.{newest_cmp, AreRows}
 use Rattle.set_versions.specs.Marked.{marks_at, no_marks, visible}
-use Rattle.set_versions.specs.Trails.{SameBut, writes_below, writes_to, numbered}
+use Rattle.set_versions.specs.Trails.{SameBut, writes_below, numbered}
 use Rattle.set_versions.specs.declared.marks.Marks.{Marks}
 
 -- The contents of versions: a base, its taken tuples, whose marks stand in the rows instead, and rows of tuples with their marks.
@@ -68,14 +68,6 @@ Published n ws old new = (D : List Fact) (before after : ℕ → List Change) �
 -- If these were all the writes of update n, it now has none.
 abbrev pub Retracted : ℕ → List Change → Kept → Kept → Type 0
 Retracted n ws old new = (D : List Fact) (before after : ℕ → List Change) → StandFor old D before → before n ≡ ws → after n ≡ [] → SameBut n before after → StandFor new D after
-
--- If these were all the writes of update n, they are now made in the base, and the update has none.
-abbrev pub Folded : ℕ → List Change → Kept → Kept → Type 0
-Folded n ws old new = (D : List Fact) (before after : ℕ → List Change) → StandFor old D before → before n ≡ ws → after n ≡ [] → SameBut n before after → StandFor new (apply D ws) after
-
--- The answer says whether a write of update n is of relation r.
-abbrev pub Wrote : ℕ → ℕ → Bool → Kept → Type 0
-Wrote n r b v = (D : List Fact) (trails : ℕ → List Change) → StandFor v D trails → b ≡ writes_to r (trails n)
 
 -- Update n sees the base with the writes of the lower updates, in the order of their numbers.
 abbrev pub SeenLaw : Type 0

@@ -7,13 +7,12 @@ use Rattle.base_tree.specs.Orders.{without}
 use Rattle.set_versions.specs.Chains.{newest_cmp}
 use Rattle.set_versions.specs.declared.marks.Marks.{Marks}
 use Rattle.set_versions.specs.declared.marks.Touch.{Touch}
-use Rattle.set_versions.specs.declared.marks.Touch.TheVariants.{Mark, Unmark, Settle}
+use Rattle.set_versions.specs.declared.marks.Touch.TheVariants.{Mark, Unmark}
 
 -- The marks after a change.
 abbrev pub touched : Touch → Marks → Marks
 touched (Mark n b) m = record { in_base = m.in_base; chain = insert_entry newest_cmp m.chain (record { 0 = n }) b }
 touched (Unmark n) m = record { in_base = m.in_base; chain = without newest_cmp (record { 0 = n }) m.chain }
-touched (Settle n b) m = record { in_base = b; chain = without newest_cmp (record { 0 = n }) m.chain }
 
 -- The marks of t after a change to the marks of s.
 abbrev pub touched_at : Touch → Fact → Fact → Marks → Marks
@@ -38,13 +37,3 @@ unwritten_at n (Delete s) t m = touched_at (Unmark n) s t m
 abbrev pub retracted_at : ℕ → List Change → Fact → Marks → Marks
 retracted_at n [] t m = m
 retracted_at n (w ∷ ws) t m = retracted_at n ws t (unwritten_at n w t m)
-
--- The marks of t after one write of update n moves into the base.
-abbrev pub settled_at : ℕ → Change → Fact → Marks → Marks
-settled_at n (Insert s) t m = touched_at (Settle n true) s t m
-settled_at n (Delete s) t m = touched_at (Settle n false) s t m
-
--- The marks of t after the writes of update n move into the base in turn.
-abbrev pub folded_at : ℕ → List Change → Fact → Marks → Marks
-folded_at n [] t m = m
-folded_at n (w ∷ ws) t m = folded_at n ws t (settled_at n w t m)

@@ -1,8 +1,7 @@
 -- The writes of updates: a trail is the writes of one update, and a function gives the trail of each number.
-use Rattle.std.specs.Prelude.{◌≡◌, ℕ, zero, suc, ◌==◌, Bool, List, [], ◌++◌, Option, Some, None}
-use Rattle.std.specs.List.{list_any, slice_get}
+use Rattle.std.specs.Prelude.{◌≡◌, ℕ, zero, suc, List, [], ◌++◌, Option, Some, None}
+use Rattle.std.specs.List.{slice_get}
 use Rattle.def_chase.specs.Repository.{Change}
-use Rattle.def_steps.specs.Chase.{relation_of}
 
 -- No update has written.
 abbrev pub no_trails : ℕ → List Change
@@ -16,10 +15,6 @@ SameBut n before after = (v : ℕ) → (v ≡ n → ⊥) → after v ≡ before 
 abbrev pub writes_below : (ℕ → List Change) → ℕ → List Change
 writes_below trail zero = []
 writes_below trail (suc n) = writes_below trail n ++ trail n
-
--- A write of the trail is of relation r.
-abbrev pub writes_to : ℕ → List Change → Bool
-writes_to r ws = list_any (λ w. relation_of w == r) ws
 
 -- The trail of an item, if there is one.
 abbrev pub trail_at : {X : Type 0} → (X → List Change) → Option X → List Change

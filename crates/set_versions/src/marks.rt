@@ -3,7 +3,7 @@ ghost use Rattle.std.specs.Prelude.{◌≡◌, OnOk, OnErr};
 ghost use Rattle.set_versions.specs.Chains.{AreMarks};
 ghost use Rattle.set_versions.specs.Based.{base_marks};
 ghost use Rattle.set_versions.specs.Touches.{touched};
-ghost use Rattle.set_versions.specs.Marked.{no_marks, is_based as is_based_def, is_nowhere as is_nowhere_def, is_marked as is_marked_def, stands as stands_def};
+ghost use Rattle.set_versions.specs.Marked.{no_marks, is_based as is_based_def, is_nowhere as is_nowhere_def, stands as stands_def};
 ghost use Rattle.set_versions.specs.Unders.{is_under, under_rises};
 
 use base_tree::{Cut, Share, TreeMap};
@@ -22,12 +22,11 @@ pub struct Marks {
     pub chain: Chain,
 }
 
-/// A change to the marks of a tuple: an update's marker is put in, taken out, or moved into the base.
+/// A change to the marks of a tuple: an update's marker is put in or taken out.
 #[derive(Clone, Copy)]
 pub enum Touch {
     Mark(u32, bool),
     Unmark(u32),
-    Settle(u32, bool),
 }
 
 impl Share for Marks {
@@ -93,11 +92,6 @@ impl Marks {
                 self.chain.remove(&Reverse(number))?;
                 return Ok(());
             }
-            Touch::Settle(number, inserted) => {
-                self.chain.remove(&Reverse(number))?;
-                self.in_base = inserted;
-                return Ok(());
-            }
         }
     }
 
@@ -113,16 +107,6 @@ impl Marks {
         ensures { result ≡ is_based_def self.now }
     {
         self.in_base && self.chain.len() == 0
-    }
-
-    /// Whether the update wrote the tuple.
-    pub fn is_marked(&self, number: u32) -> bool
-        ensures { result ≡ is_marked_def number self.now }
-    {
-        match self.chain.get(&Reverse(number)) {
-            Some(_) => return true,
-            None => return false,
-        }
     }
 
     /// Whether the update sees the tuple.

@@ -1,9 +1,9 @@
 //! Searches among the marked tuples.
-ghost use Rattle.std.specs.Prelude.{◌≡◌, ◌&&◌, None, Some, true};
+ghost use Rattle.std.specs.Prelude.{◌≡◌, ◌&&◌, Some, true};
 ghost use Rattle.std.specs.Option.{option_map, option_copied};
 ghost use Rattle.def_chase.specs.Cursors.{has_at as has_datum_at};
 ghost use Rattle.base_types.specs.Meanings.{fact_of, datum_of};
-ghost use Rattle.set_versions.specs.Marked.{is_marked, stands};
+ghost use Rattle.set_versions.specs.Marked.{stands};
 ghost use Rattle.set_versions.specs.Zones.{place_beyond, place_of, place_lead};
 ghost use Rattle.set_versions.specs.ZoneLaws.{beyond_before, beyond_past, of_before, of_past, lead_before, lead_past};
 
@@ -151,31 +151,6 @@ impl<'c> Search<Handle, ()> for Onward<'c> {
 
     fn passes(&self, _entry: &(Handle, ())) -> bool {
         true
-    }
-}
-
-/// A search for tuples of the relation that the update wrote.
-#[derive(Drop)]
-pub struct Written {
-    pub number: u32,
-    pub relation: u16,
-}
-
-impl Search<Handle, Marks> for Written {
-    ghost place = { λ s k. place_of s.relation None (fact_of k) };
-
-    ghost passes = { λ s e. is_marked s.number e.1 };
-
-    ghost stays_past = { λ s x y. of_past s.relation None (fact_of x) (fact_of y) };
-
-    ghost stays_before = { λ s x y. of_before s.relation None (fact_of x) (fact_of y) };
-
-    fn place(&self, key: &Handle) -> Ordering {
-        place_in_relation(self.relation, None, key.get())
-    }
-
-    fn passes(&self, entry: &(Handle, Marks)) -> bool {
-        entry.1.is_marked(self.number)
     }
 }
 

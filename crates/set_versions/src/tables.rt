@@ -12,7 +12,7 @@ use crate::indexes::{indexed, shared};
 use crate::marks::Marks;
 use crate::nulls::{WithNull, raised};
 use crate::scans::Scan;
-use crate::searches::{Beyond, Further, Held, Lead, Written, Zone};
+use crate::searches::{Beyond, Further, Held, Lead, Zone};
 use crate::spots::spot;
 use crate::spreads::{Spots, Spread};
 use base_tree::{Cursor, Few, Share, Start, TreeMap};
@@ -133,8 +133,6 @@ impl Table {
 // The tuples of the table that an update sees. No call takes memory.
 impl Table {
     ghost use Rattle.std.specs.Prelude.{find};
-    ghost use Rattle.std.specs.Option.{is_some};
-    ghost use Rattle.set_versions.specs.Marked.{is_row_by};
     ghost use Rattle.def_chase.specs.Cursors.{is_beyond, first_of, next_of, scan_of};
     ghost use Rattle.def_chase.specs.Repository.{has, IsRepository};
     ghost use Rattle.base_types.specs.Candidates.{is_holding};
@@ -157,16 +155,6 @@ impl Table {
     {
         match self.rows.find_at(&Held::new(tuple)) {
             Some(entry) => return entry.1.stands(number),
-            None => return false,
-        }
-    }
-
-    /// Whether the update wrote a tuple of the relation.
-    pub fn is_marked(&self, number: u32, relation: u16) -> bool
-        ensures answer { result ≡ is_some (find (is_row_by number relation) self.now) }
-    {
-        match self.rows.find_in(&Written { number, relation }) {
-            Some(_) => return true,
             None => return false,
         }
     }

@@ -3,10 +3,10 @@ ghost use Rattle.std.specs.Prelude.{◌≡◌, ◌&&◌, cond, not, [], ◌∷�
 ghost use Rattle.base_types.specs.Meanings.{fact_of, change_of};
 ghost use Rattle.set_versions.specs.Chains.{AreMarks};
 ghost use Rattle.set_versions.specs.Marked.{is_based, no_marks};
-ghost use Rattle.set_versions.specs.Standing.{AreKept, StandFor, Published, Retracted, Folded, Wrote, is_left, known_at};
+ghost use Rattle.set_versions.specs.Standing.{AreKept, StandFor, Published, Retracted, is_left, known_at};
 ghost use Rattle.def_chase.specs.Repository.{has};
 ghost use Rattle.def_chase.specs.Values.{Fact, same_fact};
-ghost use Rattle.set_versions.specs.Touches.{touched_at, written_at, published_at, unwritten_at, retracted_at, settled_at, folded_at};
+ghost use Rattle.set_versions.specs.Touches.{touched_at, written_at, published_at, unwritten_at, retracted_at};
 ghost use Rattle.set_versions.specs.Trails.{no_trails};
 
 use crate::below::Below;
@@ -124,24 +124,6 @@ impl Versions {
         let new = without_writes(self.lend()?, alloc, number, writes)?;
         *self = new;
         Ok(())
-    }
-
-    /// Moves all writes of the update, which must be `writes`, into the base; the update then has none. If the lower updates have
-    /// no writes, the higher ones see the same as before. If it is refused, nothing changes.
-    pub fn fold(&mut self, alloc: Global, number: u32, writes: &[Write]) -> Result<(), Memory>
-        ensures ok { OnOk result (Folded number (map change_of writes.now) self.old self.new) }
-        ensures err { OnErr result (self.new ≡ self.old) }
-    {
-        let new = with_settled(self.lend()?, alloc, number, writes)?;
-        *self = new;
-        Ok(())
-    }
-
-    /// Whether the update wrote a tuple of the relation. It goes through the written tuples of the relation.
-    pub fn wrote(&self, number: u32, relation: u16) -> bool
-        ensures answer { Wrote number relation result self.now }
-    {
-        self.table.is_marked(number, relation)
     }
 
     /// The view that the update has of the versions.
@@ -320,36 +302,5 @@ fn take_back(
     match write {
         Write::Insert(tuple) => versions.touch(alloc, tuple, Touch::Unmark(number)),
         Write::Delete(tuple) => versions.touch(alloc, tuple, Touch::Unmark(number)),
-    }
-}
-
-// The versions with these writes of the update in the base.
-fn with_settled(
-    mut versions: Versions,
-    alloc: Global,
-    number: u32,
-    writes: &[Write],
-) -> Result<Versions, Memory>
-    requires kept { AreKept versions }
-    ensures known { IfOk result (λ new.
-        (t : Fact)
-        → known_at new t ≡ folded_at number (map change_of writes.now) t (known_at versions t)) }
-    ensures kept { IfOk result AreKept }
-{
-    for write in writes {
-        settle(&mut versions, alloc, number, write)?;
-    }
-    Ok(versions)
-}
-
-// Puts this write of the update into the base.
-fn settle(versions: &mut Versions, alloc: Global, number: u32, write: &Write) -> Result<(), Memory>
-    ensures known { OnOk result ((t : Fact) → known_at versions.new t ≡
-        settled_at number (change_of write.now) t (known_at versions.old t)) }
-    ensures kept { OnOk result (AreKept versions.new) }
-{
-    match write {
-        Write::Insert(tuple) => versions.touch(alloc, tuple, Touch::Settle(number, true)),
-        Write::Delete(tuple) => versions.touch(alloc, tuple, Touch::Settle(number, false)),
     }
 }
