@@ -3,7 +3,6 @@
 use base_types::{Memory, Tuple, Value};
 use caseless::default_case_fold_str;
 use std::alloc::{AllocError, Global};
-use std::collections::{BTreeMap, BTreeSet};
 use ws_print::{Text, add_quoted};
 use ws_report::Note;
 use ws_space::Space;
@@ -23,102 +22,95 @@ pub(crate) fn add_alike(
     };
     let rows = space.rows(alloc, relation)?;
     for (place, column) in declared.columns.iter().enumerate() {
-        let groups = groups_of(alloc, rows.as_slice(), place)?;
+        let texts = texts_of(alloc, rows.as_slice(), place)?;
+        let groups = groups_of(alloc, texts.as_slice())?;
         if !groups.is_empty() {
-            let name = column.name.as_str();
-            let words = words_of(alloc, declared.name.as_str(), name, groups.as_slice())?;
-            notes.push(Note::of(alloc, words))?;
+            let mut words = words_for(alloc, declared.name.as_str(), column.name.as_str());
+            add_groups(&mut words, texts.as_slice(), groups.as_slice());
+            notes.push(Note::of(alloc, words.done()?))?;
         }
     }
     Ok(())
 }
 
-fn words_of(
-    alloc: Global,
-    table: &str,
-    column: &str,
-    groups: &[Vec<String>],
-) -> Result<String, AllocError> {
+fn words_for(alloc: Global, table: &str, column: &str) -> Text {
     let mut words = Text::new(alloc);
     write!(words, "{table}.{column} has spellings that are alike: ");
-    add_groups(&mut words, groups);
-    words.done()
+    words
 }
 
-fn add_groups(words: &mut Text, groups: &[Vec<String>]) {
+// Adds the texts of each group, which are given by their places.
+fn add_groups(words: &mut Text, texts: &[&str], groups: &[Vec<usize>]) {
     for (place, group) in groups.iter().take(MOST).enumerate() {
         words.push_str(if 0 < place { "; " } else { "" });
-        add_group(words, group.as_slice());
+        add_group(words, texts, group.as_slice());
     }
     if MOST < groups.len() {
         words.push_str("; ..");
     }
 }
 
-fn add_group(words: &mut Text, group: &[String]) {
+fn add_group(words: &mut Text, texts: &[&str], group: &[usize]) {
     for (place, text) in group.iter().enumerate() {
         words.push_str(if 0 < place { " and " } else { "" });
-        add_quoted(words, text.as_str());
-    }
-}
-
-// The spellings grouped by form, in the order of the first spelling of each group, and the place of each form's group.
-#[derive(Drop)]
-struct Groups {
-    groups: Vec<Vec<String>>,
-    places: BTreeMap<String, usize>,
-}
-
-// The groups of similar spellings in a column. Each group is in order, and the groups are in the order of their first spellings.
-fn groups_of(alloc: Global, rows: &[Tuple], column: usize) -> Result<Vec<Vec<String>>, Memory> {
-    let mut all = Groups {
-        groups: Vec::new(alloc),
-        places: BTreeMap::new(alloc),
-    };
-    all.add_all(alloc, rows, column)?;
-    let mut groups = all.groups;
-    groups.retain(|group| 1 < group.len());
-    Ok(groups)
-}
-
-impl Groups {
-    fn add_all(&mut self, alloc: Global, rows: &[Tuple], column: usize) -> Result<(), Memory> {
-        for text in texts_of(alloc, rows, column)? {
-            self.add(alloc, text)?;
+        if let Some(text) = texts.get(*text) {
+            add_quoted(words, *text);
         }
-        Ok(())
-    }
-
-    fn add(&mut self, alloc: Global, text: String) -> Result<(), AllocError> {
-        let place = self.place_of(alloc, text.as_str())?;
-        if let Some(group) = self.groups.get_mut(place) {
-            group.push(text)?;
-        }
-        Ok(())
-    }
-
-    // The place of the spelling's group. A new form begins a group.
-    fn place_of(&mut self, alloc: Global, text: &str) -> Result<usize, AllocError> {
-        let form = form_of(alloc, text)?;
-        if let Some(place) = self.places.get(&form) {
-            return Ok(*place);
-        }
-        let place = self.groups.len();
-        self.places.insert(form, place)?;
-        self.groups.push(Vec::new(alloc))?;
-        Ok(place)
     }
 }
 
 // The different texts of a column, in order.
-fn texts_of(alloc: Global, rows: &[Tuple], column: usize) -> Result<BTreeSet<String>, Memory> {
-    let mut texts = BTreeSet::new(alloc);
+fn texts_of<'a>(
+    alloc: Global,
+    rows: &'a [Tuple],
+    column: usize,
+) -> Result<Vec<&'a str>, AllocError> {
+    let mut texts = Vec::new(alloc);
     for tuple in rows {
         if let Some(Value::Word(bytes)) = tuple.values.as_slice().get(column) {
-            texts.insert(String::from_utf8_lossy(alloc, bytes.as_slice())?)?;
+            texts.push(str::from_utf8(bytes.as_slice()).unwrap_or(""))?;
         }
     }
+    texts.sort_unstable();
+    texts.dedup();
     Ok(texts)
+}
+
+// The groups of similar texts, by places. Each group is in order, and the groups are in the order of their first texts.
+fn groups_of(alloc: Global, texts: &[&str]) -> Result<Vec<Vec<usize>>, AllocError> {
+    let mut forms = Vec::new(alloc);
+    for (place, text) in texts.iter().enumerate() {
+        forms.push((form_of(alloc, *text)?, place))?;
+    }
+    forms.sort_unstable();
+    let mut groups = Vec::new(alloc);
+    for (one, next) in forms.iter().zip(forms.iter().skip(1)) {
+        if one.0 == next.0 {
+            join(alloc, &mut groups, one.1, next.1)?;
+        }
+    }
+    groups.sort_unstable();
+    Ok(groups)
+}
+
+// Adds a text to the last group, if that ends with the text of this place; else the two are a group of their own.
+fn join(
+    alloc: Global,
+    groups: &mut Vec<Vec<usize>>,
+    last: usize,
+    next: usize,
+) -> Result<(), AllocError> {
+    if let Some(group) = groups.last_mut() {
+        if group.last().copied() == Some(last) {
+            group.push(next)?;
+            return Ok(());
+        }
+    }
+    let mut group = Vec::new(alloc);
+    group.push(last)?;
+    group.push(next)?;
+    groups.push(group)?;
+    Ok(())
 }
 
 // The form that similar texts share: their words without capitals, with one blank between two words.
