@@ -58,12 +58,14 @@ fn text_of(alloc: Global, space: &Space, record: &Record) -> Result<Vec<u8>, Mem
     Ok(text.into_bytes())
 }
 
-// Keeps the record of lines that the workspace has taken, and its text.
+// Keeps the record of lines that the workspace has taken, and its text. Without `keeps_lines` the lines are not kept: no command
+// follows that could ask for them.
 fn keep(
     alloc: Global,
     space: &mut Space,
     texts: &mut Vec<Vec<u8>>,
     record: Record,
+    keeps_lines: bool,
 ) -> Result<(), Memory> {
     match text_of(alloc, space, &record) {
         Ok(text) => {
@@ -71,12 +73,24 @@ fn keep(
                 drop(record);
                 return Err(Memory);
             }
-            space.recorded(alloc, record)
+            space.recorded(alloc, kept(alloc, record, keeps_lines))
         }
         Err(memory) => {
             drop(record);
             Err(memory)
         }
+    }
+}
+
+fn kept(alloc: Global, record: Record, keeps_lines: bool) -> Record {
+    if keeps_lines {
+        return record;
+    }
+    let Record { stamp, lines } = record;
+    drop(lines);
+    Record {
+        stamp,
+        lines: Vec::new(alloc),
     }
 }
 
@@ -123,8 +137,9 @@ impl Session {
     }
 
     fn keep(&mut self, alloc: Global, record: Record) -> Result<(), Memory> {
+        let keeps_lines = self.speaker.settings.stays;
         match &mut self.space {
-            Some(space) => keep(alloc, space, &mut self.file.texts, record),
+            Some(space) => keep(alloc, space, &mut self.file.texts, record, keeps_lines),
             None => {
                 drop(record);
                 Err(Memory)
