@@ -1,4 +1,4 @@
-//! A load, from the text of its file to the lines of its record.
+//! A load, from the text of its file to what its record says.
 
 use crate::faults::refused;
 use crate::rows::Inserted;
@@ -115,6 +115,7 @@ fn load_rows(
         Ok(reply) => Ok(Outcome {
             reply,
             lines: inserted.lines,
+            updates: inserted.updates,
         }),
         Err(refusal) => {
             drop(inserted);
@@ -151,7 +152,7 @@ fn told(
         inserted: &*inserted,
     };
     let report = report_of(alloc, space, load, loading, begin)?;
-    let is_recorded = !loading.inserted.lines.is_empty();
+    let is_recorded = !loading.inserted.is_nothing();
     Ok(report.into_reply(alloc, space, context, is_recorded)?)
 }
 
@@ -190,7 +191,7 @@ fn report_of(
     begin: Begin,
 ) -> Result<Report, Memory> {
     let line = line_of(alloc, load)?;
-    if loading.inserted.lines.is_empty() {
+    if loading.inserted.is_nothing() {
         return Ok(loading.nothing(alloc, line)?);
     }
     let effect = space.state.effect_since(alloc, begin.mark)?;

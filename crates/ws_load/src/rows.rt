@@ -13,13 +13,14 @@ use ws_state::Told;
 use ws_written::{Line, NewFact, NumberedUpdate, Relation, Unknown, Update};
 
 /// What became of the rows: the numbers of the updates that are done and of the updates that wait, the number of rows that were
-/// there already, and the lines of the record.
+/// there already, the lines of the record before those of updates, and the numbers of all updates.
 #[derive(Drop)]
 pub(crate) struct Inserted {
     pub done: Vec<u32>,
     pub waiting: Vec<u32>,
     pub there: usize,
     pub lines: Vec<Line>,
+    pub updates: Vec<u32>,
 }
 
 impl Inserted {
@@ -30,7 +31,13 @@ impl Inserted {
             waiting: Vec::new(alloc),
             there: 0,
             lines: Vec::new(alloc),
+            updates: Vec::new(alloc),
         }
+    }
+
+    /// Whether nothing is to be recorded.
+    pub fn is_nothing(&self) -> bool {
+        self.lines.is_empty() && self.updates.is_empty()
     }
 
     /// Declares a relation.
@@ -78,13 +85,9 @@ impl Inserted {
         }
         let number = next_number(alloc, space)?;
         let line = insertion(alloc, number, steps, row.fact)?;
-        match self.take(alloc, space, number, steps, &line) {
-            Ok(()) => Ok(self.lines.push(line)?),
-            Err(refusal) => {
-                drop(line);
-                Err(refusal)
-            }
-        }
+        let taken = self.take(alloc, space, number, steps, &line);
+        drop(line);
+        taken
     }
 
     // Takes the line of an update, and counts the update as done or as waiting.
@@ -96,6 +99,7 @@ impl Inserted {
         steps: u32,
         line: &Line,
     ) -> Result<(), Refusal> {
+        self.updates.push(number)?;
         let told = space.take(alloc, line)?;
         self.count(alloc, space, number, steps, &told)
     }
@@ -118,10 +122,7 @@ impl Inserted {
 
 // The line that inserts a tuple.
 fn insertion(alloc: Global, number: u32, steps: u32, fact: NewFact) -> Result<Line, AllocError> {
-    // A load has such a list for each row, so it reserves room for one tuple alone. If memory runs out, the push returns the
-    // error.
     let mut facts = Vec::new(alloc);
-    let _ = facts.reserve_exact(1);
     facts.push(fact)?;
     Ok(Line::Update(NumberedUpdate {
         number,

@@ -13,7 +13,7 @@ use ws_print::{Text, add_count, add_ranges};
 use ws_report::{Counted, Note, Report, Telling, no_effect};
 use ws_space::Space;
 use ws_state::{Effect, MovedList};
-use ws_written::{Line, NewFact, NumberedUpdate, Update};
+use ws_written::Update;
 
 // The greatest number of hints about rows.
 const HINTS: usize = 3;
@@ -195,18 +195,6 @@ impl<'a> Loading<'a> {
         Ok(notes)
     }
 
-    // The tuple that a line inserted, if its update is done.
-    fn done_fact<'b>(&self, line: &'b Line) -> Option<&'b NewFact> {
-        match line {
-            Line::Update(numbered) if self.is_done(numbered.number) => fact_of(numbered),
-            _ => None,
-        }
-    }
-
-    fn is_done(&self, number: u32) -> bool {
-        self.inserted.done.binary_search(&number).is_ok()
-    }
-
     // The first hints about rows that were inserted, and the number of further ones.
     fn hints(&self, alloc: Global, space: &Space) -> Result<Vec<Note>, Memory> {
         let mut all = self.row_hints(alloc, space)?;
@@ -222,22 +210,28 @@ impl<'a> Loading<'a> {
     fn row_hints(&self, alloc: Global, space: &Space) -> Result<Vec<Note>, Memory> {
         let mut all = Vec::new(alloc);
         let mut hints = Hints::new(alloc);
-        let last = space.state.last();
-        for line in self.inserted.lines.iter() {
-            if let Some(fact) = self.done_fact(line) {
-                hints.add(space, fact, last, &mut all)?;
-            }
+        for number in self.inserted.done.as_slice() {
+            add_hints(alloc, space, &mut hints, *number, &mut all)?;
         }
         Ok(all)
     }
 }
 
-// The tuple that an update inserts.
-fn fact_of(numbered: &NumberedUpdate) -> Option<&NewFact> {
-    match &numbered.update {
-        Update::Insert(facts) => facts.first(),
-        _ => None,
+// Adds the hints about the tuple that an update inserted.
+fn add_hints(
+    alloc: Global,
+    space: &Space,
+    hints: &mut Hints,
+    number: u32,
+    notes: &mut Vec<Note>,
+) -> Result<(), Memory> {
+    let update = space.update(alloc, number)?;
+    if let Some(Update::Insert(facts)) = &update {
+        for fact in facts.iter() {
+            hints.add(space, fact, space.state.last(), notes)?;
+        }
     }
+    Ok(())
 }
 
 fn copied(alloc: Global, numbers: &[u32]) -> Result<Vec<u32>, AllocError> {

@@ -30,8 +30,8 @@ IsWritten (Told reply) old new = new ≡ old
 IsWritten (Changed outcome comment) old new = IsRecorded old new
 IsWritten (Folded head reply) old new = IsFresh new × IsMadeOf head.items [] new
 
--- What a change with these lines leads to: a reply alone only if there are none.
-abbrev pub IsLedTo : List Line → Done → Type 0
-IsLedTo lines (Told reply) = lines ≡ []
-IsLedTo lines (Changed outcome comment) = outcome.lines.items ≡ lines
-IsLedTo lines _ = ⊥
+-- What a change with these lines, which names these updates, leads to: a reply alone only if there are none.
+abbrev pub IsLedTo : List Line → List ℕ → Done → Type 0
+IsLedTo lines updates (Told reply) = (lines ≡ []) × (updates ≡ [])
+IsLedTo lines updates (Changed outcome comment) = (outcome.lines.items ≡ lines) × (outcome.updates.items ≡ updates)
+IsLedTo lines updates _ = ⊥

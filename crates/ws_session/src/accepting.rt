@@ -7,10 +7,34 @@ use def_memory::Memory;
 use std::alloc::Global;
 use ws_fault::Refusal;
 use ws_log::{Fault, OpenLog};
-use ws_print::{Text, add_record};
+use ws_print::{Text, add_line, add_record};
 use ws_reply::{Outcome, Reply};
 use ws_space::Space;
-use ws_written::{Line, Record, SaidLine, Stamp};
+use ws_written::{Line, NumberedUpdate, Record, SaidLine, Stamp};
+
+/// What a change says: its lines, and the numbers of the updates whose lines follow.
+#[derive(Drop)]
+pub(crate) struct Content {
+    lines: Vec<Line>,
+    updates: Vec<u32>,
+}
+
+// The updates whose lines follow the others of a record, and the comment of their first line.
+#[derive(Clone, Copy)]
+struct Further<'a> {
+    updates: &'a [u32],
+    comment: &'a str,
+}
+
+/// What a change says, and its reply.
+pub(crate) fn parts_of(outcome: Outcome) -> (Content, Reply) {
+    let Outcome {
+        reply,
+        lines,
+        updates,
+    } = outcome;
+    (Content { lines, updates }, reply)
+}
 
 /// The stamp of what is said: who says it, and when.
 pub(crate) fn stamp_of(alloc: Global, time: &str, curator: &str) -> Result<Stamp, Memory> {
@@ -50,12 +74,64 @@ fn add_said(
     }
 }
 
-// The text of a record, over the relations of the workspace after it.
-fn text_of(alloc: Global, space: &Space, record: &Record) -> Result<Vec<u8>, Memory> {
+// The text of a record with further lines, over the relations of the workspace after it.
+fn text_of(
+    alloc: Global,
+    space: &Space,
+    record: &Record,
+    further: Further<'_>,
+) -> Result<Vec<u8>, Memory> {
     let mut text = Text::new(alloc);
     add_record(&mut text, space.relations.as_slice(), record);
+    add_further(alloc, &mut text, space, further)?;
     let text = text.done()?;
     Ok(text.into_bytes())
+}
+
+fn add_further(
+    alloc: Global,
+    text: &mut Text,
+    space: &Space,
+    further: Further<'_>,
+) -> Result<(), Memory> {
+    for (place, number) in further.updates.iter().enumerate() {
+        let line = line_of(alloc, space, *number)?;
+        text.push('\n');
+        add_line(text, space.relations.as_slice(), &line);
+        if place == 0 && !further.comment.is_empty() {
+            text.push_str("  # ");
+            text.push_str(further.comment);
+        }
+    }
+    Ok(())
+}
+
+// The line of an update that the workspace has, as it was said. If there is none, the record cannot be made.
+fn line_of(alloc: Global, space: &Space, number: u32) -> Result<Line, Memory> {
+    let Some(held) = space.state.update(number) else {
+        return Err(Memory);
+    };
+    let update = space.said(alloc, held)?;
+    Ok(Line::Update(NumberedUpdate {
+        number,
+        steps: held.steps,
+        update,
+    }))
+}
+
+// The further lines as they are said.
+fn add_said_further(
+    alloc: Global,
+    said: &mut Vec<SaidLine>,
+    space: &Space,
+    further: Further<'_>,
+) -> Result<(), Memory> {
+    for (place, number) in further.updates.iter().enumerate() {
+        let comment = if place == 0 { further.comment } else { "" };
+        let line = line_of(alloc, space, *number)?;
+        add_said(alloc, said, line, comment)?;
+    }
+    Ok(())
 }
 
 // Keeps the record of lines that the workspace has taken, and its text. Without `keeps_lines` the lines are not kept: no command
@@ -65,15 +141,17 @@ fn keep(
     space: &mut Space,
     texts: &mut Vec<Vec<u8>>,
     record: Record,
+    further: Further<'_>,
     keeps_lines: bool,
 ) -> Result<(), Memory> {
-    match text_of(alloc, space, &record) {
+    match text_of(alloc, space, &record, further) {
         Ok(text) => {
             if texts.push(text).is_err() {
                 drop(record);
                 return Err(Memory);
             }
-            space.recorded(alloc, kept(alloc, record, keeps_lines))
+            let record = kept(alloc, space, record, further, keeps_lines)?;
+            space.recorded(alloc, record)
         }
         Err(memory) => {
             drop(record);
@@ -82,15 +160,42 @@ fn keep(
     }
 }
 
-fn kept(alloc: Global, record: Record, keeps_lines: bool) -> Record {
-    if keeps_lines {
-        return record;
-    }
+// The record with all of its lines if they are kept, else without lines.
+fn kept(
+    alloc: Global,
+    space: &Space,
+    record: Record,
+    further: Further<'_>,
+    keeps_lines: bool,
+) -> Result<Record, Memory> {
     let Record { stamp, lines } = record;
-    drop(lines);
-    Record {
-        stamp,
-        lines: Vec::new(alloc),
+    match kept_lines(alloc, space, lines, further, keeps_lines) {
+        Ok(lines) => Ok(Record { stamp, lines }),
+        Err(memory) => {
+            drop(stamp);
+            Err(memory)
+        }
+    }
+}
+
+fn kept_lines(
+    alloc: Global,
+    space: &Space,
+    lines: Vec<SaidLine>,
+    further: Further<'_>,
+    keeps_lines: bool,
+) -> Result<Vec<SaidLine>, Memory> {
+    if !keeps_lines {
+        drop(lines);
+        return Ok(Vec::new(alloc));
+    }
+    let mut lines = lines;
+    match add_said_further(alloc, &mut lines, space, further) {
+        Ok(()) => Ok(lines),
+        Err(memory) => {
+            drop(lines);
+            Err(memory)
+        }
     }
 }
 
@@ -106,9 +211,9 @@ impl Session {
     ) -> Result<(OpenLog, Reply), Refusal>
         ensures { IfOk result (λ told. IsRecorded log told.0) }
     {
-        let Outcome { reply, lines } = outcome;
+        let (content, reply) = parts_of(outcome);
         // All that may fail for want of memory comes before the append; after the append, nothing may fail.
-        match self.record(alloc, lines, time, comment) {
+        match self.record(alloc, content, time, comment) {
             Ok(()) => self.append(alloc, log, reply),
             Err(memory) => {
                 drop((log, reply));
@@ -117,18 +222,35 @@ impl Session {
         }
     }
 
-    /// Keeps the record of these lines and its text; the comment belongs to the first line. If memory runs out, what was read is
+    /// Keeps the record of what is said and its text; the comment belongs to the first line. If memory runs out, what was read is
     /// of no use any more.
     pub(crate) fn record(
         &mut self,
         alloc: Global,
-        lines: Vec<Line>,
+        content: Content,
         time: &str,
         comment: &str,
     ) -> Result<(), Memory> {
+        let Content { lines, updates } = content;
+        let further = Further {
+            updates: updates.as_slice(),
+            comment: if lines.is_empty() { comment } else { "" },
+        };
+        let record = self.record_of(alloc, lines, time, comment)?;
+        self.keep(alloc, record, further)
+    }
+
+    // The record of these lines, in the name of the session's curator.
+    fn record_of(
+        &self,
+        alloc: Global,
+        lines: Vec<Line>,
+        time: &str,
+        comment: &str,
+    ) -> Result<Record, Memory> {
         let lines = said_lines(alloc, lines, comment)?;
         match stamp_of(alloc, time, self.speaker.settings.curator.as_str()) {
-            Ok(stamp) => self.keep(alloc, Record { stamp, lines }),
+            Ok(stamp) => Ok(Record { stamp, lines }),
             Err(memory) => {
                 drop(lines);
                 Err(memory)
@@ -136,10 +258,13 @@ impl Session {
         }
     }
 
-    fn keep(&mut self, alloc: Global, record: Record) -> Result<(), Memory> {
+    fn keep(&mut self, alloc: Global, record: Record, further: Further<'_>) -> Result<(), Memory> {
         let keeps_lines = self.speaker.settings.stays;
         match &mut self.space {
-            Some(space) => keep(alloc, space, &mut self.file.texts, record, keeps_lines),
+            Some(space) => {
+                let texts = &mut self.file.texts;
+                keep(alloc, space, texts, record, further, keeps_lines)
+            }
             None => {
                 drop(record);
                 Err(Memory)

@@ -104,7 +104,11 @@ fn replied(
 ) -> Result<Outcome, Refusal> {
     let Done { report, lines } = done;
     match report.into_reply(alloc, space, context, !lines.is_empty()) {
-        Ok(reply) => Ok(Outcome { reply, lines }),
+        Ok(reply) => Ok(Outcome {
+            reply,
+            lines,
+            updates: Vec::new(alloc),
+        }),
         Err(_) => {
             drop(lines);
             Err(Refusal::Memory)

@@ -23,21 +23,28 @@ pub(crate) enum Done {
     Folded(Vec<u8>, Reply),
 }
 
-/// What a change leads to. If it has no lines, its reply is all.
+/// What a change leads to. If it has no lines and names no updates, its reply is all.
 pub(crate) fn led_to(outcome: Outcome, comment: String) -> Done
-    ensures { IsLedTo outcome.lines.items result }
+    ensures { IsLedTo outcome.lines.items outcome.updates.items result }
 {
-    if is_nothing(&outcome.lines) {
+    if has_none(&outcome.lines) && names_none(&outcome.updates) {
         return Done::Told(outcome.reply);
     }
     Done::Changed(outcome, comment)
 }
 
-// Whether there is nothing to record.
-fn is_nothing(lines: &Vec<Line>) -> bool
+// Whether there are no lines.
+fn has_none(lines: &Vec<Line>) -> bool
     ensures { IsTrue result ↔ (lines.now.items ≡ []) }
 {
     lines.is_empty()
+}
+
+// Whether there are no numbers of updates.
+fn names_none(updates: &Vec<u32>) -> bool
+    ensures { IsTrue result ↔ (updates.now.items ≡ []) }
+{
+    updates.is_empty()
 }
 
 /// Refuses a command that reads or writes another file if files are closed, and a command that expects the log at another record

@@ -2,7 +2,7 @@
 ghost use Rattle.std.specs.Prelude.{IfOk};
 ghost use Rattle.ws_session.specs.Written.{IsCreated};
 
-use crate::accepting::stamp_of;
+use crate::accepting::{parts_of, stamp_of};
 use crate::changing::quit;
 use crate::commands::{Turn, read_over};
 use crate::leaving::allowed;
@@ -167,8 +167,8 @@ impl Session {
     ) -> Result<(OpenLog, Reply), Refusal>
         ensures { IfOk result (λ told. IsCreated told.0) }
     {
-        let Outcome { reply, lines } = outcome;
-        match self.record(rt.alloc(), lines, time, comment) {
+        let (content, reply) = parts_of(outcome);
+        match self.record(rt.alloc(), content, time, comment) {
             Ok(()) => self.create(rt, reply),
             Err(memory) => {
                 drop(reply);
