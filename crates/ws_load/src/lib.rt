@@ -13,4 +13,4 @@ mod rows;
 mod standing;
 mod telling;
 
-pub use crate::loading::{Input, load};
+pub use crate::loading::{Input, Rows, load, read};

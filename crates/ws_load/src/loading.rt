@@ -25,26 +25,33 @@ pub struct Input<'a> {
     pub bytes: &'a [u8],
 }
 
-/// Loads the rows, in the name of the curator whom the space knows. The refusal lists all faults of the file. After a refusal,
-/// nothing is to be recorded, and the space may have changed.
+/// What was read from a file: how it fits the relation, and its rows.
+#[derive(Drop)]
+pub struct Rows {
+    fitted: Fitted,
+    loaded: Loaded,
+}
+
+/// Loads the rows, in the name of the curator whom the space knows. After a refusal, nothing is to be recorded, and the space may
+/// have changed.
 pub fn load(
     alloc: Global,
     space: &mut Space,
     context: &Context<'_>,
     load: &Load,
-    input: Input<'_>,
+    rows: Rows,
 ) -> Result<Outcome, Refusal> {
-    let (fitted, loaded) = read(alloc, space, load, input)?;
+    let Rows { fitted, loaded } = rows;
     load_rows(alloc, space, context, load, fitted, loaded)
 }
 
-// How the file fits the relation, and its rows.
-fn read(
+/// Reads the rows of a file. The refusal lists all faults of the file.
+pub fn read(
     alloc: Global,
     space: &Space,
     load: &Load,
     input: Input<'_>,
-) -> Result<(Fitted, Loaded), Refusal> {
+) -> Result<Rows, Refusal> {
     let form = form_of(alloc, load)?;
     read_as(alloc, space, load, &form, input)
 }
@@ -55,12 +62,12 @@ fn read_as(
     load: &Load,
     form: &Form,
     input: Input<'_>,
-) -> Result<(Fitted, Loaded), Refusal> {
+) -> Result<Rows, Refusal> {
     let text = text_of(alloc, input.path, input.bytes)?;
     let mut reader = CsvReader::over(alloc, text, form.separator);
     let fitted = fitted_by(alloc, space, load, form, input.path, &mut reader)?;
     let loaded = rows_of(alloc, space, &mut reader, form, &fitted, input.path)?;
-    Ok((fitted, loaded))
+    Ok(Rows { fitted, loaded })
 }
 
 // How the file fits the relation, by its header.

@@ -7,7 +7,7 @@ use std::fs;
 use ws_cells::form_of;
 use ws_command::{Load, Source};
 use ws_fault::{Refusal, Status};
-use ws_load::{Input, load as loaded_over};
+use ws_load::{Input, Rows, load as loaded_over, read};
 use ws_print::{Text, add_count};
 use ws_reply::{Context, Outcome};
 use ws_space::Space;
@@ -21,7 +21,7 @@ pub struct Fed {
 
 const INPUT: &str = "standard input";
 
-/// Does a `load` over the workspace in memory.
+/// Does a `load` over the workspace in memory. The bytes of a file are dropped before its rows are inserted.
 pub(crate) fn loaded(
     rt: &HostRuntime,
     settings: &Settings,
@@ -30,6 +30,18 @@ pub(crate) fn loaded(
     load: &Load,
     fed: Option<&Fed>,
 ) -> Result<Outcome, Refusal> {
+    let rows = rows_of(rt, settings, space, load, fed)?;
+    loaded_over(rt.alloc(), space, context, load, rows)
+}
+
+// The rows of the file, or of standard input.
+fn rows_of(
+    rt: &HostRuntime,
+    settings: &Settings,
+    space: &Space,
+    load: &Load,
+    fed: Option<&Fed>,
+) -> Result<Rows, Refusal> {
     let alloc = rt.alloc();
     let _ = form_of(alloc, load)?;
     if let Some(path) = file_of(load) {
@@ -40,7 +52,7 @@ pub(crate) fn loaded(
                     path: name,
                     bytes: bytes.as_slice(),
                 };
-                return loaded_over(alloc, space, context, load, input);
+                return read(alloc, space, load, input);
             }
             Err(error) => return Err(cannot(alloc, Status::NoInput, "read", name, &error)),
         }
@@ -50,7 +62,7 @@ pub(crate) fn loaded(
         path: INPUT,
         bytes: fed.bytes.as_slice(),
     };
-    loaded_over(alloc, space, context, load, input)
+    read(alloc, space, load, input)
 }
 
 // The path of the file with the rows; None if they are in standard input.
