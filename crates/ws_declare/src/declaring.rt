@@ -2,14 +2,14 @@
 
 use crate::forcing::force;
 use crate::lints::lints_of;
-use crate::mappings::{apart, check_mapping, is_declared};
+use crate::mappings::{check_mapping, is_declared};
 use def_memory::Memory;
 use std::alloc::Global;
 use ws_fault::{Refusal, Status};
 use ws_print::{Lines, Text, add_fact, add_new_facts};
 use ws_question::count_text;
 use ws_report::{Done, Note, Report, Taken, lines_of, told_line};
-use ws_space::{Space, Violation};
+use ws_space::{Space, Violation, apart};
 use ws_written::{Line, Rule};
 
 /// The greatest number of violations that are printed.

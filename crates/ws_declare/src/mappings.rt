@@ -3,12 +3,10 @@
 use crate::cycles::cycle_words;
 use crate::dropping::is_in_force;
 use crate::speaking::speaker_of;
-use def_memory::Memory;
 use std::alloc::Global;
 use ws_fault::Refusal;
-use ws_grammar::set_apart;
 use ws_report::refuse;
-use ws_space::{Space, copy_rule};
+use ws_space::Space;
 use ws_written::{Atom, Rule, Term};
 
 /// The greatest number of mappings that are not gone.
@@ -16,13 +14,6 @@ const MAPPINGS: usize = 40;
 
 /// The greatest number of variables that are on both sides.
 const SHARED: usize = 8;
-
-/// The mapping with a separate variable for each `_`.
-pub(crate) fn apart(alloc: Global, rule: &Rule) -> Result<Rule, Memory> {
-    let mut copy = copy_rule(alloc, rule)?;
-    set_apart(alloc, &mut copy)?;
-    Ok(copy)
-}
 
 fn same_term(one: &Term, other: &Term) -> bool {
     match (one, other) {

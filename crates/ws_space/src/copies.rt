@@ -42,7 +42,7 @@ pub fn plain_fact(alloc: Global, pattern: &Pattern) -> Result<Option<Fact>, Memo
 }
 
 /// A copy of a mapping.
-pub fn copy_rule(alloc: Global, rule: &Rule) -> Result<Rule, Memory> {
+pub(crate) fn copy_rule(alloc: Global, rule: &Rule) -> Result<Rule, Memory> {
     Ok(Rule {
         name: String::from_str(alloc, rule.name.as_str())?,
         left: copy_atoms(alloc, rule.left.as_slice())?,

@@ -1,6 +1,6 @@
 //! Finding tuples within: how they are said, and whether they are there.
 
-use crate::naming::{null_of, said_fact};
+use crate::naming::{null_of, said_fact, said_value};
 use crate::spaces::Space;
 use crate::texts::{bytes_of, small};
 use base_types::{Column, Facts, Memory, Tuple, Value, ValueList};
@@ -14,6 +14,12 @@ impl Space {
     pub fn shown(&self, alloc: Global, tuple: &Tuple) -> Result<Fact, Memory> {
         let named = self.state.names().tuple(alloc, tuple)?;
         said_fact(alloc, &named)
+    }
+
+    /// A value within in the form that people say it.
+    pub(crate) fn shown_value(&self, alloc: Global, value: &Value) -> Result<Said, Memory> {
+        let named = self.state.names().value(alloc, value)?;
+        said_value(alloc, &named)
     }
 
     /// The tuple within that a said tuple stands for; None if it names an unknown that is not there.

@@ -5,8 +5,8 @@ use crate::naming::{add_said_facts, said_fact, said_facts, unknown_of};
 use crate::sources::called;
 use crate::spaces::Space;
 use crate::spelling::said_update;
-use crate::texts::{string_of, text_of};
-use base_types::{Choice, Mapping, Memory, Null, TupleList, Value};
+use crate::texts::{name_at, string_of, text_of};
+use base_types::{Choice, MappingList, Memory, Null, TupleList, Value};
 use std::alloc::Global;
 use ws_lines::{Given, Source, Update};
 use ws_names::{Cause, Place};
@@ -183,32 +183,30 @@ fn drawn_said(
     Ok(Drawn {
         place: place.number,
         mapping: called(alloc, rules, place.cause.source)?,
-        variable: variable_said(alloc, head, &place.cause)?,
+        variable: variable_said(alloc, &head.mappings, &place.cause)?,
         image: image_said(alloc, &place.cause)?,
     })
 }
 
-fn variable_said(alloc: Global, head: &Numbered, cause: &Cause) -> Result<String, Memory> {
+/// The name of the variable that an unknown was drawn for: `u` for one that an update drew itself.
+pub fn variable_said(
+    alloc: Global,
+    mappings: &MappingList,
+    cause: &Cause,
+) -> Result<String, Memory> {
     match cause.source {
         Source::Draw => Ok(String::from_str(alloc, "u")?),
-        Source::By(mapping) => match head.mappings.get(usize::from(mapping)) {
-            Some(mapping) => variable_name(alloc, mapping, cause.variable),
+        Source::By(mapping) => match mappings.get(usize::from(mapping)) {
+            Some(mapping) => name_at(alloc, &mapping.names, cause.variable),
             None => Ok(String::new(alloc)),
         },
-        Source::Fix(mapping) => match head.mappings.get(usize::from(mapping)) {
+        Source::Fix(mapping) => match mappings.get(usize::from(mapping)) {
             Some(mapping) => {
                 let fixing = fixing_mapping(alloc, mapping)?;
-                variable_name(alloc, &fixing, cause.variable)
+                name_at(alloc, &fixing.names, cause.variable)
             }
             None => Ok(String::new(alloc)),
         },
-    }
-}
-
-fn variable_name(alloc: Global, mapping: &Mapping, variable: u16) -> Result<String, Memory> {
-    match mapping.names.get(usize::from(variable)) {
-        Some(name) => string_of(alloc, name.as_slice()),
-        None => Ok(String::new(alloc)),
     }
 }
 

@@ -16,17 +16,20 @@ pub(crate) fn state_of(
     rules: &[Rule],
     head: &Head,
 ) -> Result<Option<State>, Memory> {
+    let tables = tables_of(alloc, head.relations.as_slice())?;
+    let unknowns = names_of(alloc, head.unknowns.as_slice())?;
+    let base = named_tuples(alloc, head.base.as_slice())?;
     let mappings = mappings_of(alloc, rules)?;
     let Some(waits) = waits_of(alloc, rules, &mappings, head.waiting.as_slice())? else {
         return Ok(None);
     };
     let numbered = Numbered {
         last: head.last,
-        tables: tables_of(alloc, head.relations.as_slice())?,
+        tables,
         mappings,
         in_force: head.in_force.len(),
-        unknowns: names_of(alloc, head.unknowns.as_slice())?,
-        base: named_tuples(alloc, head.base.as_slice())?,
+        unknowns,
+        base,
         waits,
     };
     match State::of(alloc, numbered) {

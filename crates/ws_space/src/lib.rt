@@ -28,7 +28,9 @@ mod texts;
 mod violating;
 mod waits;
 
-pub use crate::copies::{copy_fact, copy_rule, copy_value, plain_fact};
+pub use crate::copies::{copy_fact, copy_value, plain_fact};
+pub use crate::folding::variable_said;
+pub use crate::lines::apart;
 pub use crate::naming::{has_unknown, is_unknown, null_of, unknown_of};
 pub use crate::opening::Opening;
 pub use crate::points::Point;

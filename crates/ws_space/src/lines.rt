@@ -1,11 +1,12 @@
 //! Lines and answers, from the said form to the state's form.
 
+use crate::copies::copy_rule;
 use crate::naming::{named_tuple, named_tuples};
 use crate::rules::mapping_of;
 use crate::sources::source_of;
 use crate::spelling::update_of;
 use crate::texts::bytes_of;
-use base_types::{Choice, Memory, NameList, NumberList};
+use base_types::{Choice, Mapping, Memory, NameList, NumberList};
 use std::alloc::Global;
 use ws_grammar::set_apart;
 use ws_lines::{Asked, Given, Line as Numbered, Table};
@@ -32,16 +33,19 @@ pub(crate) fn line_of(
         Line::UndoAnswers(numbers) => Some(Numbered::Forget(numbers_of(alloc, numbers)?)),
         Line::Redo(numbers) => Some(Numbered::Redo(numbers_of(alloc, numbers)?)),
         Line::Relation(relation) => Some(Numbered::Relation(table_of(alloc, relation)?)),
-        Line::Mapping(rule) => {
-            let rule = apart(alloc, rule)?;
-            Some(Numbered::Mapping(mapping_of(alloc, &rule)?))
-        }
+        Line::Mapping(rule) => Some(Numbered::Mapping(mapping_apart(alloc, rule)?)),
     })
 }
 
+// The mapping in the state's form, with a separate variable for each `_`.
+fn mapping_apart(alloc: Global, rule: &Rule) -> Result<Mapping, Memory> {
+    let rule = apart(alloc, rule)?;
+    mapping_of(alloc, &rule)
+}
+
 /// A copy of the mapping with a separate variable for each `_`.
-pub(crate) fn apart(alloc: Global, rule: &Rule) -> Result<Rule, Memory> {
-    let mut copy = crate::copy_rule(alloc, rule)?;
+pub fn apart(alloc: Global, rule: &Rule) -> Result<Rule, Memory> {
+    let mut copy = copy_rule(alloc, rule)?;
     set_apart(alloc, &mut copy)?;
     Ok(copy)
 }

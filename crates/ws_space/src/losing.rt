@@ -1,6 +1,6 @@
 //! Why a name stands for no unknown.
 
-use crate::naming::{null_of, said_value};
+use crate::naming::null_of;
 use crate::spaces::Space;
 use base_types::{Memory, Value};
 use std::alloc::Global;
@@ -33,10 +33,10 @@ impl Space {
 
     // `update N took it to be V, update N took that to be V, ..`; empty if no update did.
     fn fate(&self, alloc: Global, unknown: Unknown) -> Result<String, Memory> {
-        let mut fate = Text::new(alloc);
         let Some(null) = self.state.names().null_called(null_of(unknown)) else {
-            return Ok(fate.done()?);
+            return Ok(String::new(alloc));
         };
+        let mut fate = Text::new(alloc);
         let mut now = Value::Null(null);
         for standing in self.state.order().as_slice() {
             self.follow_update(alloc, &mut fate, &mut now, standing)?;
@@ -75,8 +75,7 @@ impl Space {
             fate.push_str(", ");
         }
         write!(fate, "update {number} took {what} to be ");
-        let named = self.state.names().value(alloc, value)?;
-        add_value(fate, &said_value(alloc, &named)?);
+        add_value(fate, &self.shown_value(alloc, value)?);
         Ok(())
     }
 }

@@ -44,23 +44,25 @@ fn deed_of(
         Update::Fill(unknown, value) => {
             Some(Deed::Fill(null_of(*unknown), named_value(alloc, value)?))
         }
-        Update::Change(old, new) => {
-            let new = spelled(alloc, new, news)?;
-            Some(Deed::Swap(named_tuple(alloc, old)?, new))
-        }
+        Update::Change(old, new) => Some(Deed::Swap(
+            named_tuple(alloc, old)?,
+            spelled(alloc, new, news)?,
+        )),
         Update::Fix(name, values) => match number_of(rules, name.as_str()) {
             Some(number) => Some(Deed::Fix(number, named_values(alloc, values.as_slice())?)),
             None => None,
         },
-        Update::Force(name) => match number_of(rules, name.as_str()) {
-            Some(number) => Some(Deed::Force(number)),
-            None => None,
-        },
-        Update::Drop(name) => match number_of(rules, name.as_str()) {
-            Some(number) => Some(Deed::Drop(number)),
-            None => None,
-        },
+        Update::Force(name) => forced(rules, name.as_str()),
+        Update::Drop(name) => dropped(rules, name.as_str()),
     })
+}
+
+fn forced(rules: &[Rule], name: &str) -> Option<Deed> {
+    Some(Deed::Force(number_of(rules, name)?))
+}
+
+fn dropped(rules: &[Rule], name: &str) -> Option<Deed> {
+    Some(Deed::Drop(number_of(rules, name)?))
 }
 
 fn spelled_all(
@@ -78,17 +80,19 @@ fn spelled_all(
 fn spelled(alloc: Global, fact: &NewFact, news: &mut NameList) -> Result<SpelledTuple, Memory> {
     let mut values = Vec::with_capacity(alloc, fact.values.len())?;
     for value in &fact.values {
-        values.push(match value {
-            NewValue::Known(known) => Spelled::Known(named_value(alloc, known)?),
-            NewValue::Fresh => Spelled::New(another(Name::new(alloc), news)?),
-            NewValue::Named(name) => {
-                Spelled::New(new_of(bytes_of(alloc, name.as_str())?, news)?)
-            }
-        })?;
+        values.push(spelled_value(alloc, value, news)?)?;
     }
     Ok(SpelledTuple {
         relation: small(fact.relation),
         values: SpelledList::from_vec(values),
+    })
+}
+
+fn spelled_value(alloc: Global, value: &NewValue, news: &mut NameList) -> Result<Spelled, Memory> {
+    Ok(match value {
+        NewValue::Known(known) => Spelled::Known(named_value(alloc, known)?),
+        NewValue::Fresh => Spelled::New(another(Name::new(alloc), news)?),
+        NewValue::Named(name) => Spelled::New(new_of(bytes_of(alloc, name.as_str())?, news)?),
     })
 }
 

@@ -1,6 +1,6 @@
 //! Texts of the state, which are bytes, and texts in the said form.
 
-use base_types::{List, Memory};
+use base_types::{List, Memory, NameList};
 use std::alloc::Global;
 
 /// The bytes of a text.
@@ -18,6 +18,14 @@ pub(crate) fn text_of(bytes: &[u8]) -> &str {
 /// The bytes as a text of its own.
 pub(crate) fn string_of(alloc: Global, bytes: &[u8]) -> Result<String, Memory> {
     Ok(String::from_str(alloc, text_of(bytes))?)
+}
+
+/// The name of the variable with this number; empty if there is none.
+pub(crate) fn name_at(alloc: Global, names: &NameList, variable: u16) -> Result<String, Memory> {
+    match names.get(usize::from(variable)) {
+        Some(name) => string_of(alloc, name.as_slice()),
+        None => Ok(String::new(alloc)),
+    }
 }
 
 /// The number of a relation, a mapping or a variable as the state has it.

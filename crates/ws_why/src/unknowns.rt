@@ -1,6 +1,6 @@
 //! `why ?U.P`: what drew an unknown, and which tuples have it.
 
-use base_types::{Mapping, Memory, Tuple, Value};
+use base_types::{Memory, Tuple, Value};
 use std::alloc::Global;
 use ws_fault::{Refusal, Status as Code};
 use ws_json::Object;
@@ -9,8 +9,7 @@ use ws_names::Cause;
 use ws_print::{Lines, Text, add_unknown};
 use ws_question::{fact_text, inner_text};
 use ws_reply::{Context, Reply, object_of, seen_object, seen_text, text_items};
-use ws_run::fixing_mapping;
-use ws_space::Space;
+use ws_space::{Space, variable_said};
 use ws_state::{Held, Status};
 use ws_written::Unknown;
 
@@ -89,7 +88,7 @@ fn caused(
     let Some(mapping) = space.source_mapping(cause.source) else {
         return Ok(format!(in alloc; "{name} is new in {number} by {curator}")?);
     };
-    let variable = variable_of(alloc, space, cause, mapping)?;
+    let variable = variable_said(alloc, space.state.mappings(), cause)?;
     let by = space.mapping_name(mapping);
     let mut words = Text::new(alloc);
     write!(
@@ -106,32 +105,6 @@ fn add_image(alloc: Global, space: &Space, words: &mut Text, image: &[Tuple]) {
     for (place, tuple) in image.iter().enumerate() {
         words.push_str(if place == 0 { ", since " } else { ", " });
         words.made(fact_text(alloc, space, tuple));
-    }
-}
-
-// The name of the variable that the unknown was drawn for.
-fn variable_of(
-    alloc: Global,
-    space: &Space,
-    cause: &Cause,
-    mapping: u16,
-) -> Result<String, Memory> {
-    let Some(mapping) = space.state.mappings().get(usize::from(mapping)) else {
-        return Ok(String::new(alloc));
-    };
-    match cause.source {
-        Source::Fix(_) => name_at(alloc, &fixing_mapping(alloc, mapping)?, cause.variable),
-        _ => name_at(alloc, mapping, cause.variable),
-    }
-}
-
-fn name_at(alloc: Global, mapping: &Mapping, variable: u16) -> Result<String, Memory> {
-    match mapping.names.get(usize::from(variable)) {
-        Some(name) => {
-            let name = str::from_utf8(name.as_slice()).unwrap_or("");
-            Ok(String::from_str(alloc, name)?)
-        }
-        None => Ok(String::new(alloc)),
     }
 }
 
