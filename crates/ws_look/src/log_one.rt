@@ -3,30 +3,22 @@
 use base_types::{Memory, Write};
 use std::alloc::Global;
 use ws_fault::{Refusal, Status as Code};
-use ws_json::{Items, Object};
+use ws_json::Object;
 use ws_lines::Given;
 use ws_print::{Lines, Text, add_choice, add_count};
-use ws_question::{fact_text, reason_words, status_of, status_word};
+use ws_question::{reason_words, status_of, status_word, write_items, write_text};
 use ws_reply::{Context, Reply, object_of, seen_object, seen_text, text_items};
 use ws_space::Space;
 use ws_state::{Standing, Status, Waiting};
 use ws_written::{Choice, Line};
 
-// An update: its answers, its status, with words about it, and what it wrote.
+// An update: its answers, and its status with words about it.
 #[derive(Drop)]
 struct Told {
     number: u32,
     status: Status,
     words: String,
     answers: Vec<String>,
-    writes: Vec<Wrote>,
-}
-
-// A tuple that came or went.
-#[derive(Drop)]
-struct Wrote {
-    sign: &'static str,
-    text: String,
 }
 
 /// The update with this number: its line, its answers, its status, and what it wrote. It is refused if there is none.
@@ -55,13 +47,11 @@ fn reply(
 
 fn told_of(alloc: Global, space: &mut Space, number: u32, status: Status) -> Result<Told, Memory> {
     let words = words_of(alloc, space, number, status)?;
-    let answers = answers_of(alloc, space, number)?;
     Ok(Told {
         number,
         status,
         words,
-        answers,
-        writes: writes_of(alloc, space, number)?,
+        answers: answers_of(alloc, space, number)?,
     })
 }
 
@@ -118,23 +108,12 @@ fn done_words(alloc: Global, standing: &Standing) -> Result<String, Memory> {
     Ok(words.done()?)
 }
 
-fn writes_of(alloc: Global, space: &Space, number: u32) -> Result<Vec<Wrote>, Memory> {
-    let mut writes = Vec::new(alloc);
-    if let Some(standing) = standing_of(space, number) {
-        for write in standing.writes.as_slice() {
-            writes.push(wrote_of(alloc, space, write)?)?;
-        }
+// What the update wrote, if it stands.
+fn writes_of(space: &Space, number: u32) -> &[Write] {
+    match standing_of(space, number) {
+        Some(standing) => standing.writes.as_slice(),
+        None => &[],
     }
-    Ok(writes)
-}
-
-fn wrote_of(alloc: Global, space: &Space, write: &Write) -> Result<Wrote, Memory> {
-    let (sign, tuple) = match write {
-        Write::Insert(tuple) => ("+", tuple),
-        Write::Delete(tuple) => ("-", tuple),
-    };
-    let text = fact_text(alloc, space, tuple)?;
-    Ok(Wrote { sign, text })
 }
 
 // The choices of the answers that the update took; if it neither stands nor waits, the choices of the answers that it was given.
@@ -188,10 +167,8 @@ fn lines(alloc: Global, space: &Space, told: &Told) -> Result<Vec<String>, Memor
     }
     let words = told.words.as_str();
     lines.made(format!(in alloc; "  {words}"));
-    for wrote in told.writes.iter() {
-        let sign = wrote.sign;
-        let text = wrote.text.as_str();
-        lines.made(format!(in alloc; "  {sign} {text}"));
+    for write in writes_of(space, told.number) {
+        lines.made(write_text(alloc, space, write, "  + ", "  - "));
     }
     Ok(lines.done()?)
 }
@@ -211,16 +188,9 @@ fn object(alloc: Global, space: &Space, told: &Told) -> Object {
     object.made("line", space.update_text(alloc, told.number));
     object.text("state", status_word(told.status));
     object.items("answers", text_items(alloc, told.answers.as_slice()));
-    object.items("writes", write_items(alloc, told.writes.as_slice()));
+    object.items(
+        "writes",
+        write_items(alloc, space, writes_of(space, told.number)),
+    );
     object
-}
-
-fn write_items(alloc: Global, writes: &[Wrote]) -> Items {
-    let mut items = Items::new(alloc);
-    for wrote in writes {
-        let sign = wrote.sign;
-        let text = wrote.text.as_str();
-        items.made(format!(in alloc; "{sign}{text}"));
-    }
-    items
 }

@@ -50,12 +50,9 @@ fn add_candidates(
     like: Option<&str>,
     limit: usize,
 ) -> Result<(), Memory> {
-    let found = candidates_of(alloc, space, asked, like, limit)?;
     let width = number_width(alloc, asked)?;
-    for Candidate { number, text } in found.shown.iter() {
-        let number = format!(in alloc; "{number}")?;
-        lines.made(numbered(alloc, number.as_str(), width, text.as_str()));
-    }
+    let found = candidates_of(alloc, space, asked, like, limit)?;
+    add_shown(alloc, lines, found.shown.as_slice(), width);
     if limit < found.fit {
         let more = found.fit.saturating_sub(limit);
         let number = asked.number;
@@ -70,6 +67,19 @@ fn add_candidates(
         lines.made(numbered(alloc, "new", width, "none of them"));
     }
     Ok(())
+}
+
+// Adds a line for each candidate.
+fn add_shown(alloc: Global, lines: &mut Lines, shown: &[Candidate], width: usize) {
+    for candidate in shown {
+        lines.made(candidate_line(alloc, candidate, width));
+    }
+}
+
+fn candidate_line(alloc: Global, candidate: &Candidate, width: usize) -> Result<String, Memory> {
+    let number = candidate.number;
+    let number = format!(in alloc; "{number}")?;
+    numbered(alloc, number.as_str(), width, candidate.text.as_str())
 }
 
 // The line that no candidate contains the text.

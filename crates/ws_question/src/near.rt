@@ -97,18 +97,30 @@ fn count_one(counts: &mut BTreeMap<Tuple, usize>, tuple: &Tuple) -> Result<(), M
 
 // The first tuples whose first value is spelled like this one's.
 fn alike(alloc: Global, space: &Space, fact: &Fact) -> Result<Vec<String>, Memory> {
-    let mut texts = Lines::new(alloc);
     let Some(first) = fact.values.first() else {
-        return Ok(texts.done()?);
+        return Ok(Vec::new(alloc));
     };
     let word = value_text(alloc, first)?;
     let rows = space.rows(alloc, fact.relation)?;
-    for tuple in rows.as_slice().iter() {
-        if texts.len() < TOLD && is_alike(alloc, space, word.as_str(), tuple)? {
+    let mut texts = Lines::new(alloc);
+    add_alike(alloc, &mut texts, space, word.as_str(), rows.as_slice())?;
+    Ok(texts.done()?)
+}
+
+// Adds the first of the tuples whose first value is spelled like the word.
+fn add_alike(
+    alloc: Global,
+    texts: &mut Lines,
+    space: &Space,
+    word: &str,
+    tuples: &[Tuple],
+) -> Result<(), Memory> {
+    for tuple in tuples {
+        if texts.len() < TOLD && is_alike(alloc, space, word, tuple)? {
             texts.made(inner_text(alloc, space, tuple));
         }
     }
-    Ok(texts.done()?)
+    Ok(())
 }
 
 fn is_alike(alloc: Global, space: &Space, word: &str, tuple: &Tuple) -> Result<bool, Memory> {

@@ -3,19 +3,20 @@
 use crate::asked::AskedNow;
 use base_types::Memory;
 use std::alloc::Global;
+use ws_print::Lines;
 
 /// The commands that answer the question, show it again, and take its update back.
 pub fn question_next(alloc: Global, asked: &AskedNow) -> Result<Vec<String>, Memory> {
     let number = asked.number;
-    let mut next = Vec::new(alloc);
+    let mut next = Lines::new(alloc);
     if let Some(place) = asked.ranked.first() {
         let first = place.saturating_add(1);
-        next.push(format!(in alloc; "answer {number} {first}")?)?;
+        next.made(format!(in alloc; "answer {number} {first}"));
     }
     if asked.question.is_positive {
-        next.push(format!(in alloc; "answer {number} new")?)?;
+        next.made(format!(in alloc; "answer {number} new"));
     }
-    next.push(format!(in alloc; "questions {number}")?)?;
-    next.push(format!(in alloc; "undo {number}")?)?;
-    Ok(next)
+    next.made(format!(in alloc; "questions {number}"));
+    next.made(format!(in alloc; "undo {number}"));
+    Ok(next.done()?)
 }

@@ -36,7 +36,7 @@ pub fn question_object(
     }
     object.number("count", as_number(asked.count()));
     object.items("since", facts(alloc, space, question.since.as_slice()));
-    object.items("so_far", so_far(alloc, space, question.so_far.as_slice()));
+    object.items("so_far", write_items(alloc, space, question.so_far.as_slice()));
     if let Some(wanted) = asked.wanted() {
         object.made("wanted", fact_text(alloc, space, wanted));
     }
@@ -66,7 +66,8 @@ fn facts(alloc: Global, space: &Space, tuples: &[Tuple]) -> Items {
     items
 }
 
-fn so_far(alloc: Global, space: &Space, writes: &[Write]) -> Items {
+/// The tuples that came, each after a `+`, and those that went, each after a `-`.
+pub fn write_items(alloc: Global, space: &Space, writes: &[Write]) -> Items {
     let mut items = Items::new(alloc);
     for write in writes {
         items.made(write_text(alloc, space, write, "+", "-"));

@@ -20,17 +20,19 @@ pub fn reason_words(
         Reason::Asks(_) => Ok(String::from_str(alloc, "it asks")?),
         Reason::NotThere(name) => lost_words(alloc, *name),
         Reason::TooLong(_) => Ok(String::from_str(alloc, "its steps do not suffice")?),
-        Reason::Violated(mapping) => {
-            let name = space.mapping_name(*mapping);
-            let count = space.count_violations(alloc, *mapping)?;
-            let count = count_text(alloc, count, "violation")?;
-            Ok(format!(in alloc; "{name} has {count}")?)
-        }
+        Reason::Violated(mapping) => violated_words(alloc, space, *mapping),
         Reason::Gone(mapping) => {
             let name = space.mapping_name(*mapping);
             Ok(format!(in alloc; "mapping {name} is gone")?)
         }
     }
+}
+
+fn violated_words(alloc: Global, space: &Space, mapping: u16) -> Result<String, Memory> {
+    let name = space.mapping_name(mapping);
+    let count = space.count_violations(alloc, mapping)?;
+    let count = count_text(alloc, count, "violation")?;
+    Ok(format!(in alloc; "{name} has {count}")?)
 }
 
 /// The words for an unknown that is not there.

@@ -17,7 +17,7 @@ pub fn fact_text(alloc: Global, space: &Space, tuple: &Tuple) -> Result<String, 
 }
 
 /// A tuple that came or went, after the word for one or the other.
-pub(crate) fn write_text(
+pub fn write_text(
     alloc: Global,
     space: &Space,
     write: &Write,
