@@ -5,6 +5,7 @@ use def_memory::Memory;
 use std::alloc::Global;
 use ws_fault::{Refusal, Status};
 use ws_lines::Deed;
+use ws_print::Lines;
 use ws_question::{AskedNow, asked_now, count_text, question_next, reason_words};
 use ws_report::{Done, Report, recorded, refuse, spent_fault};
 use ws_run::Reason;
@@ -109,33 +110,36 @@ fn cannot(alloc: Global, space: &Space, number: u32, reason: &Reason) -> Result<
 
 // For a repair: the words for the violations of its mapping that are left.
 fn left_of(alloc: Global, space: &Space, number: u32) -> Result<Left, Memory> {
-    let mut left = Left {
-        also: Vec::new(alloc),
-        next: Vec::new(alloc),
+    let Some(mapping) = fixed_by(space, number) else {
+        return Ok(Left {
+            also: Vec::new(alloc),
+            next: Vec::new(alloc),
+        });
     };
-    if let Some(mapping) = fixed_by(space, number) {
-        let name = space.mapping_name(mapping);
-        let count = space.count_violations(alloc, mapping)?;
-        left.add(alloc, name, count)?;
-    }
-    Ok(left)
+    let count = space.count_violations(alloc, mapping)?;
+    count_left(alloc, space.mapping_name(mapping), count)
 }
 
-impl Left {
-    // Adds the words for `count` violations of the mapping that are left.
-    fn add(&mut self, alloc: Global, name: &str, count: usize) -> Result<(), Memory> {
-        if count == 0 {
-            self.also
-                .push(format!(in alloc; "{name} has no violation now")?)?;
-            self.next.push(format!(in alloc; "adopt {name}")?)?;
-            return Ok(());
-        }
-        let count = count_text(alloc, count, "violation")?;
-        self.also
-            .push(format!(in alloc; "{count} of {name} left")?)?;
-        self.next.push(String::from_str(alloc, "questions")?)?;
-        Ok(())
+// The words for `count` violations of the mapping that are left.
+fn count_left(alloc: Global, name: &str, count: usize) -> Result<Left, Memory> {
+    let mut also = Lines::new(alloc);
+    let mut next = Lines::new(alloc);
+    if count == 0 {
+        also.made(format!(in alloc; "{name} has no violation now"));
+        next.made(format!(in alloc; "adopt {name}"));
+    } else {
+        also.made(left_text(alloc, name, count));
+        next.push_str("questions");
     }
+    Ok(Left {
+        also: also.done()?,
+        next: next.done()?,
+    })
+}
+
+fn left_text(alloc: Global, name: &str, count: usize) -> Result<String, Memory> {
+    let count = count_text(alloc, count, "violation")?;
+    Ok(format!(in alloc; "{count} of {name} left")?)
 }
 
 // The mapping that the update repairs; None if it is no repair.

@@ -14,18 +14,44 @@ pub(crate) fn first_mappings(
     cut: usize,
 ) -> Result<MappingList, Memory> {
     let mut mappings = MappingList::new(alloc);
+    match add_first(alloc, &mut mappings, space, hidden, cut) {
+        Ok(()) => Ok(mappings),
+        Err(memory) => {
+            drop(mappings);
+            Err(memory)
+        }
+    }
+}
+
+fn add_first(
+    alloc: Global,
+    mappings: &mut MappingList,
+    space: &Space,
+    hidden: &Hidden,
+    cut: usize,
+) -> Result<(), Memory> {
     let in_force = space.state.in_force();
     let before = in_force.len().saturating_sub(enacted_from(space, cut));
     for mapping in in_force.iter().take(before) {
-        add_mapping(alloc, &mut mappings, space, *mapping, 0)?;
+        add_mapping(alloc, mappings, space, *mapping, 0)?;
     }
+    add_hidden(alloc, mappings, space, hidden)
+}
+
+// Adds the hidden mappings.
+fn add_hidden(
+    alloc: Global,
+    mappings: &mut MappingList,
+    space: &Space,
+    hidden: &Hidden,
+) -> Result<(), Memory> {
     if hidden.want.is_some() {
         mappings.push(moved(alloc, drawing_mapping(alloc)?, hidden, None)?)?;
     }
     for fix in hidden.fixes.iter() {
-        add_fix(alloc, &mut mappings, space, hidden, *fix)?;
+        add_fix(alloc, mappings, space, hidden, *fix)?;
     }
-    Ok(mappings)
+    Ok(())
 }
 
 /// Adds a mapping of the workspace, in force since update `since` of the dump.

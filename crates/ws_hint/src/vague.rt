@@ -51,24 +51,41 @@ pub(crate) fn vague_of(
     space: &Space,
     relation: u16,
 ) -> Result<Vec<VagueColumn>, Memory> {
-    let mut columns = Vec::new(alloc);
     if space.state.names().len() == 0 {
-        return Ok(columns);
+        return Ok(Vec::new(alloc));
     }
+    let mut columns = empty_columns(alloc, space, relation)?;
+    add_vague(alloc, &mut columns, space, relation)?;
+    Ok(columns)
+}
+
+// A column without tuples for each column of the relation.
+fn empty_columns(alloc: Global, space: &Space, relation: u16) -> Result<Vec<VagueColumn>, Memory> {
+    let mut columns = Vec::new(alloc);
     if let Some(declared) = space.relations.get(usize::from(relation)) {
         for _ in declared.columns.iter() {
             let tuples = BTreeMap::new(alloc);
             columns.push(VagueColumn { tuples })?;
         }
     }
+    Ok(columns)
+}
+
+// Adds the tuples of the relation that have unknowns.
+fn add_vague(
+    alloc: Global,
+    columns: &mut Vec<VagueColumn>,
+    space: &Space,
+    relation: u16,
+) -> Result<(), Memory> {
     let mut walk = Walk::new(space.state.facts(), relation, None);
     for _ in 0..u64::MAX {
         let Some(tuple) = walk.next() else {
             break;
         };
         if has_unknown(tuple) {
-            add_tuple(alloc, &mut columns, tuple)?;
+            add_tuple(alloc, columns, tuple)?;
         }
     }
-    Ok(columns)
+    Ok(())
 }

@@ -11,7 +11,7 @@ use std::alloc::Global;
 use ws_command::{Bounds, Pattern, Replacement};
 use ws_fault::Refusal;
 use ws_hint::known_fact;
-use ws_print::{Text, add_pattern, add_update};
+use ws_print::{Lines, Text, add_pattern, add_update};
 use ws_question::count_text;
 use ws_report::{Done, joined, refuse, refuse_with, said_text};
 use ws_space::{Space, copy_value};
@@ -107,16 +107,26 @@ fn one_fact(alloc: Global, space: &Space, pattern: &Pattern) -> Result<Fact, Ref
             return Ok(fact);
         }
     }
+    refuse_several(alloc, space, pattern, facts.as_slice())
+}
+
+// Refuses a pattern that fits these tuples, and lists the first of them.
+fn refuse_several(
+    alloc: Global,
+    space: &Space,
+    pattern: &Pattern,
+    facts: &[Fact],
+) -> Result<Fact, Refusal> {
     let mut words = Text::new(alloc);
     add_pattern(&mut words, space.relations.as_slice(), pattern);
     words.push_str(" fits ");
     words.made(count_text(alloc, facts.len(), "tuple"));
     let words = words.done()?;
-    let mut texts = Vec::new(alloc);
+    let mut texts = Lines::new(alloc);
     for fact in facts.iter().take(TOLD) {
-        texts.push(said_text(alloc, space, fact)?)?;
+        texts.made(said_text(alloc, space, fact));
     }
-    refuse_with(alloc, words.as_str(), "", texts)
+    refuse_with(alloc, words.as_str(), "", texts.done()?)
 }
 
 // Whether the replacement has a `_`.

@@ -88,12 +88,16 @@ fn standing_words(
     let mut next = Vec::new(alloc);
     let along = along(line, effect);
     if 0 < along {
-        let count = count_text(alloc, along, "tuple")?;
-        let words = format!(in alloc; "{count} went that you did not name")?;
-        notes.push(Note::of(alloc, words))?;
+        notes.push(along_note(alloc, along)?)?;
         next.push(format!(in alloc; "undo {number}")?)?;
     }
     Ok(Words { text, notes, next })
+}
+
+fn along_note(alloc: Global, along: usize) -> Result<Note, Memory> {
+    let count = count_text(alloc, along, "tuple")?;
+    let words = format!(in alloc; "{count} went that you did not name")?;
+    Ok(Note::of(alloc, words))
 }
 
 fn waits(
