@@ -22,7 +22,7 @@ shown_after xs ys = let w = (taken_all every (folded (taken_all every begun xs))
 abbrev pub all_of_them : List Fact
 all_of_them = pair 0 (num 1) (num 2) ∷ pair 1 (num 1) (num 5) ∷ pair 1 (called 4 1) (called 4 2) ∷ pair 2 (num 5) (num 6) ∷ []
 
--- Each line meets what the laws ask of it. A fold before the answer is not seen, also not by an undo of update 4, which came after
+-- Each line is fit, and its answer is heard. A fold before the answer is not seen, also not by an undo of update 4, which came after
 -- it. After a fold that comes later, update 1 can be undone no more.
 pub record FoldIsWorked : Type 0 where
   pub told : Throughout every (IsTold every) begun worked

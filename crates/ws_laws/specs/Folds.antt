@@ -45,6 +45,7 @@ pub record IsLater (S : State) (n : ℕ) : Type 0 where
   pub before : IsNew S n
   pub now : IsNew (folded S) n
 
+-- Each of the updates is new at a fold of S.
 abbrev pub AreLater : State → List ℕ → Type 0
 AreLater S [] = Unit {0}
 AreLater S (n ∷ ns) = IsLater S n × AreLater S ns

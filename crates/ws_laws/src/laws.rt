@@ -5,17 +5,20 @@ ghost use Rattle.ws_laws.specs.Giving.{LogsKeepPlaces, NamesAreGivenOnce};
 ghost use Rattle.ws_laws.specs.Keeping.{LogsKeepMappings};
 ghost use Rattle.ws_laws.specs.Replays.{RedosBringBack, ReplaysKeepWhatStands, UndosTakeBack};
 
-/// The log is the truth: what stands and waits after a log is what a replay of the whole log gives.
+/// The log is the truth: if its lines are fit and its answers are heard, what stands and waits after a log is what a replay of
+/// the whole log gives.
 pub fn replays_keep_what_stands()
     ensures { ReplaysKeepWhatStands }
 {}
 
-/// If an update is said under a new number and then undone, what stands and waits is what stood and waited before.
+/// If an update is said under a new number and then undone, what stands and waits is what stood and waited before. The lines
+/// before it are fit, and their answers are heard.
 pub fn undos_take_back()
     ensures { UndosTakeBack }
 {}
 
-/// If updates that are not undone are undone and then done again, what stands and waits is what stood and waited before.
+/// If updates that are not undone are undone and then done again, what stands and waits is what stood and waited before. The
+/// lines before them are fit, and their answers are heard.
 pub fn redos_bring_back()
     ensures { RedosBringBack }
 {}
@@ -25,12 +28,14 @@ pub fn logs_keep_mappings()
     ensures { LogsKeepMappings }
 {}
 
-/// A fold is not seen: what is said, answered and declared after it has the same effect as without it.
+/// A fold that keeps all answers and places is not seen: what is said, answered and declared after it has the same effect as
+/// without it.
 pub fn folds_are_not_seen()
     ensures { FoldsAreNotSeen }
 {}
 
-/// No undo, redo or taking back of what was said after a fold sees the fold.
+/// No undo, redo or taking back of what was said after a fold sees the fold, if the lines are fit, and the answers before the fold
+/// are heard.
 pub fn undos_see_no_fold()
     ensures { UndosSeeNoFold }
 {}

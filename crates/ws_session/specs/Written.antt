@@ -3,7 +3,7 @@ use Rattle.std.specs.Prelude.{◌≡◌, ◌++◌, ◌∷◌, [], ℕ, List}
 use Rattle.ws_file.specs.Files.{state_of}
 use Rattle.ws_log.specs.Held.{HeldLog, IsFresh, IsMadeOf}
 use Rattle.ws_seal.specs.Logs.{IsHeld}
-use Rattle.ws_written.specs.declared.lines.Line.{Line}
+use Rattle.ws_reply.specs.declared.outcomes.Outcome.{Outcome}
 use Rattle.ws_session.specs.declared.leaving.Done.{Done}
 use Rattle.ws_session.specs.declared.leaving.Done.TheVariants.{Nothing, Told, Changed, Folded}
 
@@ -23,15 +23,15 @@ abbrev pub IsCreated : HeldLog → Type 0
 IsCreated log = (head : List ℕ) × (texts : List (List ℕ)) × IsMadeOf head texts log
 
 -- What is written for what a command leads to: nothing for a blank line and for a reply alone; one text for a change that has
--- lines; a new log of the head for a fold.
+-- lines or names updates; a new log with the mark of its head for a fold.
 abbrev pub IsWritten : Done → HeldLog → HeldLog → Type 0
 IsWritten Nothing old new = new ≡ old
 IsWritten (Told reply) old new = new ≡ old
 IsWritten (Changed outcome comment) old new = IsRecorded old new
 IsWritten (Folded head reply) old new = IsFresh new × IsMadeOf head.items [] new
 
--- What a change with these lines, which names these updates, leads to: a reply alone only if there are none.
-abbrev pub IsLedTo : List Line → List ℕ → Done → Type 0
-IsLedTo lines updates (Told reply) = (lines ≡ []) × (updates ≡ [])
-IsLedTo lines updates (Changed outcome comment) = (outcome.lines.items ≡ lines) × (outcome.updates.items ≡ updates)
-IsLedTo lines updates _ = ⊥
+-- What an outcome leads to: its reply alone only if it has no lines and names no updates, else all of it.
+abbrev pub IsLedTo : Outcome → Done → Type 0
+IsLedTo outcome (Told reply) = (outcome.lines.items ≡ []) × (outcome.updates.items ≡ []) × (reply ≡ outcome.reply)
+IsLedTo outcome (Changed all comment) = all ≡ outcome
+IsLedTo outcome _ = ⊥

@@ -99,7 +99,8 @@ impl Session {
         }
     }
 
-    // Writes what is to be written, and then returns the reply. So no reply is given before what it tells of lasts.
+    // Writes what is to be written, and then returns the reply. So no reply to a change is given before a text is appended that
+    // lasts.
     fn written(
         &mut self,
         rt: &HostRuntime,

@@ -25,7 +25,7 @@ pub(crate) enum Done {
 
 /// What a change leads to. If it has no lines and names no updates, its reply is all.
 pub(crate) fn led_to(outcome: Outcome, comment: String) -> Done
-    ensures { IsLedTo outcome.lines.items outcome.updates.items result }
+    ensures { IsLedTo outcome result }
 {
     if has_none(&outcome.lines) && names_none(&outcome.updates) {
         return Done::Told(outcome.reply);

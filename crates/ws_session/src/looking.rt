@@ -53,7 +53,11 @@ impl Speaker {
             } => Ok(ask(alloc, space, &context, asked, *unknowns, *limit)?),
             Look::Why(Why::Fact(pattern), dot) => why_fact(alloc, space, &context, pattern, *dot),
             Look::Why(Why::Unknown(unknown), _) => why_unknown(alloc, space, &context, *unknown),
-            _ => looked(alloc, space, &mut self.shown, &context, look),
+            Look::Show(_, _)
+            | Look::Questions { .. }
+            | Look::Violations { .. }
+            | Look::Log { .. }
+            | Look::Status => looked(alloc, space, &mut self.shown, &context, look),
         }
     }
 }
