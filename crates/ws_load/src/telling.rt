@@ -9,7 +9,7 @@ use std::fmt::Write;
 use ws_command::{Load, Source};
 use ws_fault::Status;
 use ws_hint::Hints;
-use ws_print::{Text, add_count, add_ranges};
+use ws_print::{Text, add_count, add_escaped, add_ranges};
 use ws_report::{Counted, Note, Report, Telling, no_effect};
 use ws_space::Space;
 use ws_state::{Effect, MovedList};
@@ -41,8 +41,10 @@ pub(crate) fn line_of(alloc: Global, load: &Load) -> Result<String, AllocError> 
     let name = load.relation.as_str();
     match &load.source {
         Source::File(path) => {
-            let path = path.as_str();
-            format!(in alloc; "load {name} {path}")
+            let mut line = Text::new(alloc);
+            write!(line, "load {name} ");
+            add_escaped(&mut line, path.as_str());
+            line.done()
         }
         Source::Lines(count) => format!(in alloc; "load {name} --lines {count}"),
     }

@@ -6,7 +6,7 @@ use base_types::Memory;
 use std::alloc::{AllocError, Global};
 use std::fmt::Write;
 use ws_fault::Status;
-use ws_print::{Lines, Text, add_count, add_form};
+use ws_print::{Lines, Text, add_count, add_escaped, add_form};
 use ws_reply::{Context, Reply, seen_object, seen_text};
 use ws_space::Space;
 use ws_written::Relation;
@@ -76,7 +76,8 @@ fn first_line(
     context: &Context<'_>,
     counts: &Counts,
 ) -> Result<String, AllocError> {
-    let mut line = Text::from_str(alloc, last_part(context.file));
+    let mut line = Text::new(alloc);
+    add_escaped(&mut line, last_part(context.file));
     line.push_str(": ");
     add_count(&mut line, total(counts.rows.as_slice()), "tuple");
     line.push_str(" in ");

@@ -6,7 +6,7 @@ use std::io::{self, ErrorKind};
 use ws_fault::{Fault, Refusal, Status};
 use ws_json::{Items, Object};
 use ws_log::{Damage, Fault as LogFault, reason};
-use ws_print::{Lines, Text, add_fault};
+use ws_print::{Lines, Text, add_escaped, add_fault};
 use ws_reply::{Form, Kind, Reply};
 
 /// A fault with these words and without a place.
@@ -121,7 +121,8 @@ pub fn not_utf8(alloc: Global, number: usize) -> Result<Fault, AllocError> {
     Ok(fault(alloc, Status::Unread, words, None))
 }
 
-/// A fault of a line as a reply; `number` is the line's number in a script.
+/// A fault of a line as a reply; `number` is the line's number in a script. Its words may name a file, whose name may have control
+/// characters; these are shown as escapes.
 pub fn fault_reply(
     alloc: Global,
     form: Form,
@@ -129,10 +130,45 @@ pub fn fault_reply(
     line: &str,
     number: Option<u64>,
 ) -> Result<Reply, AllocError> {
+    let shown = escaped_fault(alloc, fault)?;
     if form == Form::Json {
-        let object = fault_object(alloc, fault, number);
+        let object = fault_object(alloc, &shown, number);
         return Reply::of_object(alloc, fault.status, Kind::Fault, object);
     }
+    text_reply(alloc, &shown, line, number)
+}
+
+// The fault with each control character in its words as an escape.
+fn escaped_fault(alloc: Global, fault: &Fault) -> Result<Fault, AllocError> {
+    let mut more = Vec::new(alloc);
+    for words in fault.more.iter() {
+        more.push(escaped(alloc, words.as_str())?)?;
+    }
+    let hint = match &fault.hint {
+        Some(hint) => Some(escaped(alloc, hint.as_str())?),
+        None => None,
+    };
+    Ok(Fault {
+        status: fault.status,
+        words: escaped(alloc, fault.words.as_str())?,
+        place: fault.place,
+        hint,
+        more,
+    })
+}
+
+fn escaped(alloc: Global, words: &str) -> Result<String, AllocError> {
+    let mut text = Text::new(alloc);
+    add_escaped(&mut text, words);
+    text.done()
+}
+
+fn text_reply(
+    alloc: Global,
+    fault: &Fault,
+    line: &str,
+    number: Option<u64>,
+) -> Result<Reply, AllocError> {
     let mut text = Text::from_str(alloc, "yt: ");
     add_fault(&mut text, fault, line, number);
     let text = text.done()?;
