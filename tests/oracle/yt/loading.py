@@ -59,7 +59,7 @@ class Loading:
             if "create" not in opts:
                 raise T.Fault("there is no relation %s" % name, None,
                               (T.mean(name, s.schema.names()) or "make it: " + make + ", or load it with --create"), 3)
-            made = T.parse(make, s.schema, {})
+            made = self.declaration(make)
             if name.lower() in [n.lower() for n in s.schema.names()]:
                 raise T.Fault("there is no relation %s" % name, None, T.mean(name, s.schema.names()), 3)
             s.do_plain(made)
@@ -181,6 +181,14 @@ class Loading:
                 notes.append("mapping %s is proposed and has %s" % (p, plural(n, "violation")))
         return self.plain(shown, "waits" if asks else "done", WAITS if asks else DONE, "load %s %s" % (name, said), effect, extra,
                           notes, ["questions"] if asks else [], [i.number for i in done], [i.number for i in asks])
+
+    def declaration(self, line):
+        """The relation that a header declares. A fault of it has no place, because nobody gave this line."""
+        try:
+            return T.parse(line, self.space.schema, {})
+        except T.Fault as f:
+            f.at = None
+            raise
 
     def plain(self, cmd, did, status, text, effect, extra, notes=(), next=(), numbers=(), waiting=()):
         lines = [("try " if self.trying else "") + "%s: %s" % (did, text)]

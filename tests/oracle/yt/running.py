@@ -166,6 +166,8 @@ class Running:
             for j, f in enumerate(fresh):
                 self.run_op(item, ("delete", (UNKNOWN, ((0, j + 1), self.follow(f, subs)))), self.hidden(WANT))
         elif kind == "fix":
+            if line[1] in self.gone:
+                raise Stop("gone", mapping=line[1])
             rel = self.fix_relation(line[1])
             hidden = self.hidden(rel, line[1])
             key = tuple(self.inner(v) for v in line[2])

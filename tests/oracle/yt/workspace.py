@@ -53,7 +53,10 @@ class Workspace:
         if self.comment:
             lines = ["%s  # %s" % (lines[0], self.comment)] + lines[1:]
         payload = "\n".join(["%s %s" % (time, self.who)] + lines).encode()
-        self.journal.append(payload)
+        if self.journal.fd is None:
+            self.create(payload)
+        else:
+            self.journal.append(payload)
         self.payloads.append(payload)
         self.read += 1
         self.space.at += 1
@@ -79,12 +82,14 @@ class Workspace:
                 if cmd is None:
                     return None
                 self.allowed(cmd)
+                self.comment = cmd[-1].get("#", "")
                 if cmd[0] == "help":
                     return self.do_help(cmd)
                 if cmd[0] == "quit":
                     return Reply(DONE, [], {"reply": "quit"})
                 if cmd[0] == "load" and "create" in cmd[-1]:
-                    self.make(None)
+                    self.payloads, self.read = [self.head()], 1
+                    self.space = Space(self.payloads[0])
                     return Doer(self, self.space).do(cmd)
                 if cmd[0] != "relation":
                     raise T.Fault("there is no file %s" % self.name, None,
@@ -122,14 +127,25 @@ class Workspace:
         lines = help_text(cmd[1])
         return Reply(DONE, lines, {"reply": "help", "text": "\n".join(lines)})
 
+    def head(self):
+        return "\n".join(["yt 1", "created %s %s" % (now(), self.who), "last 0 at 0", "end"]).encode()
+
     def make(self, cmd):
-        head = "\n".join(["yt 1", "created %s %s" % (now(), self.who), "last 0 at 0", "end"])
-        record = [] if cmd is None else ["\n".join(["%s %s" % (now(), self.who), T.show_line(T.Schema(), cmd) +
-                    ("  # " + cmd[-1]["#"] if cmd[-1]["#"] else "")]).encode()]
-        if not fresh(self.path, [head.encode()] + record, False, self.name):
-            raise T.Fault("somebody has just made %s; say it again" % self.name, None, None, 3)
+        """Makes the file by its first relation."""
+        line = T.show_line(T.Schema(), cmd) + ("  # " + cmd[-1]["#"] if cmd[-1]["#"] else "")
+        self.write_new([self.head(), ("%s %s\n%s" % (now(), self.who, line)).encode()])
         self.open(True)
-        return None if cmd is None else Doer(self, self.space).related(cmd, True)
+        return Doer(self, self.space).related(cmd, True)
+
+    def create(self, payload):
+        """Makes the file of a workspace that is only in memory, with its first record."""
+        self.write_new(self.payloads + [payload])
+        self.journal.lock(True)
+        self.journal.news()
+
+    def write_new(self, payloads):
+        if not fresh(self.path, payloads, False, self.name):
+            raise T.Fault("somebody has just made %s; say it again" % self.name, None, None, 3)
 
 
 def log_entry(space, text):
