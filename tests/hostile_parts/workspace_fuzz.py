@@ -7,10 +7,8 @@ few cells, now and then a cell of a million bytes; it is loaded with random opti
 the end must be equal to the reference's. Inputs that differ are kept, and their folder is printed. JOBS in the environment is the
 number of processes. The last line is 'N passed, M failed'.
 """
-import json
 import os
 import random
-import re
 import shutil
 import sys
 from concurrent.futures import ProcessPoolExecutor
@@ -19,7 +17,6 @@ from pathlib import Path
 from workspace_garbled import garbled_file, garbled_line, load_lines
 from workspace_runs import LOOKS, Bench, Tally, Workspace, by_reference, random_script, yt
 
-CONTROLS = re.compile("[\x00-\x1f\x7f-\x9f\u061c\u200e\u200f\u2028-\u202e\u2066-\u2069]")
 PART = 20          # seeds for one task
 BEGIN = ['relation A(x*, y)', 'relation B(name, town, born)', 'insert A(1, ?), A("a", "Utrecht")', 'mapping m: B(n, t, b) -> A(n, u)']
 
@@ -45,25 +42,6 @@ def load_of(rng, bench):
     return "".join(line + "\n" for line in BEGIN).encode() + load_lines(rng, path, data) + LOOKS
 
 
-def shown(text, kept=""):
-    """Words of a fault as yt shows them: control characters by their numbers, so that none of them reaches a terminal."""
-    return CONTROLS.sub(lambda found: found[0] if found[0] == kept else "\\u{%x}" % ord(found[0]), text)
-
-
-def with_controls_shown(told):
-    """The answer of the reference, with the words of its faults as yt shows them."""
-    status, out, err = told
-    lines = out.split(b"\n")
-    for number, line in enumerate(lines):
-        if b'"reply":"fault"' in line:
-            fault = json.loads(line)
-            for key in {"words", "hint"} & set(fault):
-                fault[key] = shown(fault[key])
-            fault.update({"faults": [shown(words) for words in fault["faults"]]} if "faults" in fault else {})
-            lines[number] = json.dumps(fault, ensure_ascii=False, sort_keys=True, separators=(",", ":")).encode()
-    return status, b"\n".join(lines), shown(err.decode("utf-8", "surrogateescape"), "\n").encode("utf-8", "surrogateescape")
-
-
 def difference(bench, options, data):
     """The answers of yt and of the reference, if they differ."""
     file, both = bench.path("w.yt"), []
@@ -77,9 +55,7 @@ def difference(bench, options, data):
 
 def differing(wanted, told):
     """The answers of the reference and of yt, if they differ."""
-    # A line with a fault is shown as it was given, with its tabs.
-    both = [(status, out, err.replace(b"\t", b"\\u{9}")) for status, out, err in (with_controls_shown(wanted), told)]
-    return None if both[0] == both[1] else both
+    return None if wanted == told else (wanted, told)
 
 
 def kept(bench, name, options, data, both):

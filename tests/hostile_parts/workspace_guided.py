@@ -22,7 +22,7 @@ from functools import partial
 from pathlib import Path
 
 from workspace_forged import file_of, texts_of
-from workspace_fuzz import BEGIN, CONTROLS, differing
+from workspace_fuzz import BEGIN, differing
 from workspace_garbled import CELLS, OPTIONS, WORDS, garbled_file
 from workspace_runs import LOOKS, STRICT, Bench, Tally, Workspace, by_reference, random_script, yt
 from workspace_verbs import LINES
@@ -34,7 +34,7 @@ TOGETHER = 20000            # inputs of one process
 COMPARED = 2000             # inputs of each kind that are compared with the reference
 PATIENCE = 10               # seconds of processor for the reference
 AT_MOST = os.environ.get("AT_MOST", "")
-ODD_LETTERS = re.compile("[\udc80-\udcff]|" + CONTROLS.pattern)
+NOT_UTF_8 = re.compile("[\udc80-\udcff]")
 BEGUN = "".join(line + "\n" for line in BEGIN).encode()
 
 
@@ -60,9 +60,9 @@ def of_records(data):
 
 
 def of_words(data):
-    """Whether no word leads out of the folder. Words that are not UTF-8 or have a control character count only with STRICT."""
+    """Whether no word leads out of the folder. Words that are not UTF-8 count only with STRICT."""
     words = [os.fsdecode(word) for word in data.partition(b"\0")[0].split(b"\n")[:MOST_WORDS]]
-    if b"/" in data or not STRICT and ODD_LETTERS.search("".join(words)):
+    if b"/" in data or not STRICT and NOT_UTF_8.search("".join(words)):
         return None
     return {"rows.csv": b"x,y\n1,2\n"}, [(["w.yt"], BEGUN + b'insert B("b", ?, 3)\n'), (words, LOOKS)]
 

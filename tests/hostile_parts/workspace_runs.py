@@ -17,7 +17,7 @@ os.environ.update(YT_TIME="2026-11-30T09:00:00Z", YT_CURATOR="ann", LC_ALL="C.UT
 LOOKS = b"show\nlog\nquestions\nviolations\nstatus\n"
 NEVER = "there is no file"
 # Known differences between yt and the reference count only with STRICT in the environment, in `guided`: of a forged file with
-# several faults another one is first, or none; and a control character in the name of a file that does not exist.
+# several faults another one is first, or none.
 STRICT = "STRICT" in os.environ
 
 

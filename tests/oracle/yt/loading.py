@@ -21,7 +21,7 @@ class Loading:
             raise T.Fault("the separator is one character, or tab")
         if opts.get("empty", "refuse") not in ("refuse", "new", "text", "skip"):
             raise T.Fault("--empty is new (a new unknown), text (the empty text), skip (the row) or refuse")
-        said = "--lines %d" % opts["lines"] if path is None else path
+        said = "--lines %d" % opts["lines"] if path is None else T.escaped(path)
         if path in (None, "-"):
             path = "standard input"
             if self.ws.data is None:

@@ -174,7 +174,7 @@ class Looking:
         s = self.space
         counts = [(name, len(s.facts.relation(r))) for r, (name, _) in enumerate(s.schema.relations)]
         unknowns = len({v for t in s.facts.all for v in t[1] if v[0] == 2})
-        lines = ["%s: %s in %s, %s" % (os.path.basename(self.ws.path), plural(sum(n for _, n in counts), "tuple"),
+        lines = ["%s: %s in %s, %s" % (T.escaped(os.path.basename(self.ws.path)), plural(sum(n for _, n in counts), "tuple"),
                                        plural(len(counts), "relation"), plural(unknowns, "unknown"))]
         lines += ["  %s %d" % (s.schema.form(r), counts[r][1]) for r in range(len(counts))]
         lines += ["in force: " + s.show_mapping(s.mappings[m]) for m in s.force]

@@ -5,6 +5,11 @@ def control(ch):
     return ord(ch) < 32 or 127 <= ord(ch) < 160 or ch in "\u061c\u200e\u200f\u2028\u2029\u202a\u202b\u202c\u202d\u202e\u2066\u2067\u2068\u2069"
 
 
+def escaped(text):
+    """The text with each control character as an escape, so that none of them acts on a terminal."""
+    return "".join("\\u{%x}" % ord(ch) if control(ch) else ch for ch in text)
+
+
 def quoted(b):
     out = []
     for ch in b.decode():

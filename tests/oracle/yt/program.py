@@ -88,6 +88,7 @@ def main(argv):
     out, err = sys.stdout.buffer, sys.stderr.buffer
 
     def fault(words, hint=None):
+        words, hint = T.escaped(words), hint and T.escaped(hint)
         if wants_json(argv):
             out.write((Reply(WORDS, [], dict([("reply", "fault"), ("words", words)] +
                                              ([("hint", hint)] if hint else []))).json()[0] + "\n").encode("utf-8", "replace"))

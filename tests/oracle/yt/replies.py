@@ -41,19 +41,20 @@ def note_object(n):
 
 
 def fault_reply(f, line, number=None):
-    obj = {"reply": "fault", "words": f.words}
-    lines = [f.words]
+    words, more, hint = T.escaped(f.words), [T.escaped(m) for m in f.more], f.hint and T.escaped(f.hint)
+    obj = {"reply": "fault", "words": words}
+    lines = [words]
     if f.at is not None:
         obj["column"] = f.at + 1
-        lines[0] = "column %d: %s" % (f.at + 1, f.words)
+        lines[0] = "column %d: %s" % (f.at + 1, words)
         shown = line.rstrip("\r\n")
         mark = "".join("\t" if ch == "\t" else " " * T.width(ch) for ch in shown[:f.at])
         if not any(T.control(ch) and ch != "\t" for ch in shown):
             lines += ["  " + shown, "  " + mark + "^"]
-    lines += ["  " + m for m in f.more]
-    if f.more:
-        obj["faults"] = f.more
-    if f.hint:
-        obj["hint"] = f.hint
-        lines.append("  " + f.hint)
+    lines += ["  " + m for m in more]
+    if more:
+        obj["faults"] = more
+    if hint:
+        obj["hint"] = hint
+        lines.append("  " + hint)
     return Reply(f.status, lines, obj)

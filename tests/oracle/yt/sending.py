@@ -33,7 +33,7 @@ class Sending:
             write(path, text)
         except OSError as e:
             raise FileFault(WRITE, "cannot write %s: %s" % (self.ws.say(path), (e.strerror or "fault").lower()))
-        return Reply(DONE, ["wrote %s" % path], {"reply": "wrote", "file": path})
+        return Reply(DONE, ["wrote %s" % T.escaped(path)], {"reply": "wrote", "file": path})
 
     def do_graph(self, cmd):
         return self.sent(graph_dot(self.space), cmd[-1], "dot")

@@ -106,7 +106,7 @@ class Workspace:
             return fault_reply(f, line)
         except FileFault as f:
             self.space = None
-            return Reply(f.status, [f.words], {"reply": "fault", "words": f.words})
+            return fault_reply(T.Fault(f.words, status=f.status), line)
         except MemoryError:
             self.space = None
             return Reply(MEMORY, ["out of memory"], {"reply": "fault", "words": "out of memory"})
