@@ -72,11 +72,16 @@ class Work:
     def ours(self, *words):
         return self.an_update(*(instructions([self.program, *words], data) for data in (self.session, self.head)))
 
-    def sqlite(self):
+    def driver(self):
+        """The words that take the updates in SQLite, after one run whose repository is compared."""
         drive = self.folder / 'sqlite_drive'
         output(['gcc', '-O2', '-o', drive, HERE / 'sqlite_drive.c', '-lsqlite3'])
         words = [drive, self.folder / 'sqlite']
         self.compare('SQLite', output([*words, 'dump'])[0])
+        return words
+
+    def sqlite(self):
+        words = self.driver()
         return self.an_update(instructions(words), instructions([*words, 'load']))
 
     def postgres(self):
