@@ -46,12 +46,7 @@ pub fn load(
 }
 
 /// Reads the rows of a file. The refusal lists all faults of the file.
-pub fn read(
-    alloc: Global,
-    space: &Space,
-    load: &Load,
-    input: Input<'_>,
-) -> Result<Rows, Refusal> {
+pub fn read(alloc: Global, space: &Space, load: &Load, input: Input<'_>) -> Result<Rows, Refusal> {
     let form = form_of(alloc, load)?;
     read_as(alloc, space, load, &form, input)
 }

@@ -36,7 +36,10 @@ pub fn question_object(
     }
     object.number("count", as_number(asked.count()));
     object.items("since", facts(alloc, space, question.since.as_slice()));
-    object.items("so_far", write_items(alloc, space, question.so_far.as_slice()));
+    object.items(
+        "so_far",
+        write_items(alloc, space, question.so_far.as_slice()),
+    );
     if let Some(wanted) = asked.wanted() {
         object.made("wanted", fact_text(alloc, space, wanted));
     }
