@@ -1,1 +1,6 @@
 pub mod Onward
+pub mod Following
+pub mod Found
+pub mod Sources
+pub mod Called
+pub mod Naming
