@@ -1,5 +1,5 @@
 -- Values and tuples of an update that are found in turn.
-use Rattle.std.proofs.Common.{◌≡◌, ◌∙◌, ap, refl, sym, ℕ, ◌+◌, ◌<◌, ◌≤◌, Bool, true, false, ◌||◌, cond, List, [], ◌∷◌, ◌++◌, map, length, drop, get_or, find, Option, Some, None, is_some, Bor, append_assoc}
+use Rattle.std.proofs.Common.{◌≡◌, ◌∙◌, ap, refl, sym, subst, ℕ, ◌+◌, ◌<◌, ◌≤◌, Bool, true, false, ◌||◌, cond, List, [], ◌∷◌, ◌++◌, map, length, drop, get_or, find, Option, Some, None, is_some, Bor, append_assoc}
 use Rattle.std.specs.Option.{option_map, option_copied}
 use Rattle.std.specs.List.{list_any}
 use Rattle.std.proofs.lemmas.List.{append-nil, drop_more, drop_all, map_push}
@@ -54,7 +54,7 @@ misses_as P Q f (Left (Violated n)) m = absurd m
 misses_as P Q f (Left (Gone n)) m = absurd m
 
 pub wants_memory : (P : NullName → Type 0) (h : Halt) → h ≡ Memory → Misses P h
-wants_memory P h e = transport (λ i. Misses P (e (~ i))) tt
+wants_memory P h e = subst (λ (x : Halt). Misses P x) (sym e) tt
 
 -- ---- values in turn
 

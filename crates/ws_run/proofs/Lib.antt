@@ -4,3 +4,5 @@ pub mod Found
 pub mod Sources
 pub mod Called
 pub mod Naming
+pub mod Moving
+pub mod Steps

@@ -4,7 +4,7 @@ use Rattle.std.specs.Option.{option_map}
 use Rattle.std.specs.List.{slice_get}
 use Rattle.def_chase.specs.Mappings.{Rule}
 use Rattle.def_workspace.specs.Lines.{Source}
-use Rattle.def_workspace.specs.Runs.{source_at}
+use Rattle.def_workspace.specs.Runs.{rules_of, source_at}
 use Rattle.ws_lines.specs.declared.answers.Source.{Source as SourceOfProgram}
 use Rattle.ws_run.specs.Meanings.{active_of, source_or}
 
@@ -23,3 +23,9 @@ source_there ss rs n r s there is =
 
 pub source_not : (ss : List SourceOfProgram) (rs : List Rule) (n : ℕ) → None ≡ slice_get rs n → None ≡ source_at (active_of ss rs) n
 source_not ss rs n not_there = ap (option_map (λ (q : Rule). source_or ss n)) not_there ∙ sym (source_at_is ss rs n)
+
+-- The mappings in force are those.
+pub rules_are : (ss : List SourceOfProgram) (rs : List Rule) → rules_of (active_of ss rs) ≡ rs
+rules_are ss [] = refl
+rules_are [] (r ∷ rs) = ap (λ (qs : List Rule). r ∷ qs) (rules_are [] rs)
+rules_are (s ∷ ss) (r ∷ rs) = ap (λ (qs : List Rule). r ∷ qs) (rules_are ss rs)

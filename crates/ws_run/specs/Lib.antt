@@ -5,3 +5,4 @@ pub mod Asking
 pub mod Drawing
 pub mod DrawnMeanings
 pub mod Halting
+pub mod Running
