@@ -10,7 +10,7 @@ use Rattle.base_types.specs.declared.tuples.Tuple.{Tuple}
 use Rattle.base_types.specs.declared.values.Value.{Value}
 use Rattle.def_chase.specs.Queries.{holds_null}
 use Rattle.def_chase.specs.Values.{Datum, Fact, NullName}
-use Rattle.def_workspace.specs.Lines.{SpelledFact}
+use Rattle.def_workspace.specs.Lines.{Spelled}
 use Rattle.def_workspace.specs.Names.{stands_in}
 use Rattle.def_workspace.specs.Ops.{Found, There, Lost, AllFound, AllThere, OneLost, one_more, one_found, all_found, found, found_spelled, Course, Going, Halted, with_values, with_facts, with_spelled}
 use Rattle.def_workspace.specs.Runs.{NotThere}
@@ -144,4 +144,53 @@ module _ (g : Ground) (c : Course) (over : IsOver g c) where
   facts_end ts i all h so_far f =
       sym (so_far f)
       ∙ ap (λ (l : List Tuple). with_facts c (map fact_of l) (λ us. f (map fact_of all ++ us))) (drop_all i ts h)
+      ∙ ap f (append-nil (map fact_of all))
+
+-- ---- tuples of a line in turn
+
+module _ (first : ℕ) (g : Ground) (c : Course) (over : IsOver g c) where
+  -- The names and tuples are those of the ground.
+  spelled_rows : (vs : List Spelled) → all_found (found_spelled first c.thread.names c.facts) vs ≡ all_found (found_spelled first g.names g.facts) vs
+  spelled_rows vs i = all_found (found_spelled first (over.names i) (over.facts i)) vs
+
+  module _ (ts : List SpelledTuple) (i : ℕ) (t : SpelledTuple) (h : i < length ts) (e : t ≡ get_or ts i t) where
+    -- A tuple is found next.
+    pub spelled_on : (vs : List Value) (all next : List Tuple) (u : Tuple)
+        → all_found (found_spelled first g.names g.facts) (map spelled_of t.values.items) ≡ AllThere (map datum_of vs) → fact_of u ≡ record { relation = t.relation; values = map datum_of vs }
+        → next ≡ all ++ u ∷ []
+        → ((f : List Fact → Going) → with_spelled first c (map spelled_fact_of (drop i ts)) (λ us. f (map fact_of all ++ us)) ≡ with_spelled first c (map spelled_fact_of ts) f)
+        → (f : List Fact → Going) → with_spelled first c (map spelled_fact_of (drop (i + 1) ts)) (λ us. f (map fact_of next ++ us)) ≡ with_spelled first c (map spelled_fact_of ts) f
+    spelled_on vs all next u there is more so_far f =
+        let rest = map spelled_fact_of (drop (i + 1) ts) in
+        (λ j. with_spelled first c rest (λ us. f (added us j)))
+        ∙ sym (ap (λ (a : AllFound). with_values c a (λ ds. with_spelled first c rest (λ us. f (map fact_of all ++ record { relation = t.relation; values = ds } ∷ us)))) (spelled_rows (map spelled_of t.values.items) ∙ there))
+        ∙ sym (ap (λ (l : List SpelledTuple). with_spelled first c (map spelled_fact_of l) (λ us. f (map fact_of all ++ us))) (drop_more ts i t h ∙ ap (λ (s : SpelledTuple). s ∷ drop (i + 1) ts) (sym e)))
+        ∙ so_far f
+      where
+        added : (us : List Fact) → map fact_of next ++ us ≡ map fact_of all ++ record { relation = t.relation; values = map datum_of vs } ∷ us
+        added us =
+            ap (λ (l : List Tuple). map fact_of l ++ us) more
+            ∙ ap (λ (l : List Fact). l ++ us) (map_push fact_of all u)
+            ∙ append_assoc (map fact_of all) (fact_of u ∷ []) us
+            ∙ ap (λ (s : Fact). map fact_of all ++ s ∷ us) is
+
+    -- A tuple has a null that is not there.
+    pub spelled_lost : (all : List Tuple) (x : Halt) → LosesOne (all_found (found_spelled first g.names g.facts) (map spelled_of t.values.items)) x
+        → ((f : List Fact → Going) → with_spelled first c (map spelled_fact_of (drop i ts)) (λ us. f (map fact_of all ++ us)) ≡ with_spelled first c (map spelled_fact_of ts) f)
+        → HaltsFirst (with_spelled first c (map spelled_fact_of ts)) c x
+    spelled_lost all x loses so_far =
+        misses_as (λ n. all_found (found_spelled first g.names g.facts) (map spelled_of t.values.items) ≡ OneLost n) (λ n. (f : List Fact → Going) → with_spelled first c (map spelled_fact_of ts) f ≡ Halted (NotThere n) c.thread)
+        (λ n lost f.
+            sym (so_far f)
+            ∙ ap (λ (l : List SpelledTuple). with_spelled first c (map spelled_fact_of l) (λ us. f (map fact_of all ++ us))) (drop_more ts i t h ∙ ap (λ (s : SpelledTuple). s ∷ drop (i + 1) ts) (sym e))
+            ∙ ap (λ (a : AllFound). with_values c a (λ ds. with_spelled first c (map spelled_fact_of (drop (i + 1) ts)) (λ us. f (map fact_of all ++ record { relation = t.relation; values = ds } ∷ us)))) (spelled_rows (map spelled_of t.values.items) ∙ lost))
+        x loses
+
+  -- All are found.
+  pub spelled_end : (ts : List SpelledTuple) (i : ℕ) (all : List Tuple) → length ts ≤ i
+      → ((f : List Fact → Going) → with_spelled first c (map spelled_fact_of (drop i ts)) (λ us. f (map fact_of all ++ us)) ≡ with_spelled first c (map spelled_fact_of ts) f)
+      → GoesOnWith (with_spelled first c (map spelled_fact_of ts)) (map fact_of all)
+  spelled_end ts i all h so_far f =
+      sym (so_far f)
+      ∙ ap (λ (l : List SpelledTuple). with_spelled first c (map spelled_fact_of l) (λ us. f (map fact_of all ++ us))) (drop_all i ts h)
       ∙ ap f (append-nil (map fact_of all))

@@ -6,3 +6,4 @@ pub mod Called
 pub mod Naming
 pub mod Moving
 pub mod Steps
+pub mod Answered

@@ -221,19 +221,19 @@ module _ (number B : ℕ) (as' : List Active) (D : List Fact) where
 -- ---- what values become
 
 -- One step more.
-over_more : (ws : List Way) (w : Way) (d : Datum) → moved_over (ws ++ w ∷ []) d ≡ moved_way w (moved_over ws d)
+pub over_more : (ws : List Way) (w : Way) (d : Datum) → moved_over (ws ++ w ∷ []) d ≡ moved_way w (moved_over ws d)
 over_more [] w d = refl
 over_more (x ∷ ws) w d = over_more ws w (moved_way x d)
 
 -- The way of the step of an answer moves values as the answer does.
-by_answer : (ms : List Rule) (q : Question) (c : Choice) (d : Datum) → moved_way (way_of_question ms q (Some c)) d ≡ moved_by q c d
+pub by_answer : (ms : List Rule) (q : Question) (c : Choice) (d : Datum) → moved_way (way_of_question ms q (Some c)) d ≡ moved_by q c d
 by_answer ms (Positive r t cs) Expand d = refl
 by_answer ms (Positive r t cs) (Unify o) d = refl
 by_answer ms (Positive r t cs) (Drop os) d = refl
 by_answer ms (Negative n ts) c d = refl
 
 -- The way of the first step moves them as the operation does.
-by_operation : (D : List Fact) (op : Operation) (d : Datum) → moved_way (way_of_start D op) d ≡ moved_first D op d
+pub by_operation : (D : List Fact) (op : Operation) (d : Datum) → moved_way (way_of_start D op) d ≡ moved_first D op d
 by_operation D (Adds t) d = refl
 by_operation D (Removes t) d = refl
 by_operation D (Replaces n v) d = refl
