@@ -62,10 +62,9 @@ module _ (ns : Names) (ts : List Fact) (os : List Tuple) (a : Option (List Fact)
   pub called_on : (i : ℕ) (o : Tuple) (chosen next : List Tuple) (t : Tuple) → i < length os → o ≡ get_or os i o → Some (fact_of t) ≡ called ns ts (fact_of o) → next ≡ chosen ++ t ∷ []
       → CalledSoFar i chosen → CalledSoFar (i + 1) next
   called_on i o chosen next t h e is more so_far =
-      let rest = all_called ns ts (map fact_of (drop (i + 1) os)) in
-      ap (λ (us : List Tuple). after_called (map fact_of us) rest) more
-      ∙ ap (λ (us : List Fact). after_called us rest) (map_push fact_of chosen t)
-      ∙ sym (one_after (map fact_of chosen) (fact_of t) rest)
+      ap (λ (us : List Tuple). after_called (map fact_of us) (all_called ns ts (map fact_of (drop (i + 1) os)))) more
+      ∙ ap (λ (us : List Fact). after_called us (all_called ns ts (map fact_of (drop (i + 1) os)))) (map_push fact_of chosen t)
+      ∙ sym (one_after (map fact_of chosen) (fact_of t) (all_called ns ts (map fact_of (drop (i + 1) os))))
       ∙ sym (ap (after_called (map fact_of chosen)) (next_form i o (Some (fact_of t)) h e is))
       ∙ so_far
 

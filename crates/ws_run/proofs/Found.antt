@@ -78,11 +78,10 @@ module _ {V B : Type 0} (m : V → B) (f : B → Found) (vs : List V) where
   pub found_on : (i : ℕ) (v : V) (all next : List Value) (x : Value) → i < length vs → v ≡ get_or vs i v → f (m v) ≡ There (datum_of x) → next ≡ all ++ x ∷ []
       → FoundSoFar i all → FoundSoFar (i + 1) next
   found_on i v all next x h e there more so_far =
-      let rest = all_found f (map m (drop (i + 1) vs)) in
-      ap (λ (l : List Value). after_values (map datum_of l) rest) more
-      ∙ ap (λ (ds : List Datum). after_values ds rest) (map_push datum_of all x)
-      ∙ sym (one_after (map datum_of all) (datum_of x) rest)
-      ∙ sym (ap (after_values (map datum_of all)) (next_of i v h e ∙ ap (λ (g : Found). one_found g rest) there))
+      ap (λ (l : List Value). after_values (map datum_of l) (all_found f (map m (drop (i + 1) vs)))) more
+      ∙ ap (λ (ds : List Datum). after_values ds (all_found f (map m (drop (i + 1) vs)))) (map_push datum_of all x)
+      ∙ sym (one_after (map datum_of all) (datum_of x) (all_found f (map m (drop (i + 1) vs))))
+      ∙ sym (ap (after_values (map datum_of all)) (next_of i v h e ∙ ap (λ (g : Found). one_found g (all_found f (map m (drop (i + 1) vs)))) there))
       ∙ so_far
 
   pub lost_at : (i : ℕ) (v : V) (all : List Value) (h : Halt) → i < length vs → v ≡ get_or vs i v → Loses (f (m v)) h → FoundSoFar i all → LosesOne (all_found f (map m vs)) h
@@ -112,9 +111,8 @@ module _ (g : Ground) (c : Course) (over : IsOver g c) where
         → ((f : List Fact → Going) → with_facts c (map fact_of (drop i ts)) (λ us. f (map fact_of all ++ us)) ≡ with_facts c (map fact_of ts) f)
         → (f : List Fact → Going) → with_facts c (map fact_of (drop (i + 1) ts)) (λ us. f (map fact_of next ++ us)) ≡ with_facts c (map fact_of ts) f
     facts_on vs all next u there is more so_far f =
-        let rest = map fact_of (drop (i + 1) ts) in
-        (λ j. with_facts c rest (λ us. f (added us j)))
-        ∙ sym (ap (λ (a : AllFound). with_values c a (λ ds. with_facts c rest (λ us. f (map fact_of all ++ record { relation = t.relation; values = ds } ∷ us)))) (rows (map datum_of t.values.items) ∙ there))
+        (λ j. with_facts c (map fact_of (drop (i + 1) ts)) (λ us. f (added us j)))
+        ∙ sym (ap (λ (a : AllFound). with_values c a (λ ds. with_facts c (map fact_of (drop (i + 1) ts)) (λ us. f (map fact_of all ++ record { relation = t.relation; values = ds } ∷ us)))) (rows (map datum_of t.values.items) ∙ there))
         ∙ sym (ap (λ (l : List Tuple). with_facts c (map fact_of l) (λ us. f (map fact_of all ++ us))) (drop_more ts i t h ∙ ap (λ (s : Tuple). s ∷ drop (i + 1) ts) (sym e)))
         ∙ so_far f
       where
@@ -161,9 +159,8 @@ module _ (first : ℕ) (g : Ground) (c : Course) (over : IsOver g c) where
         → ((f : List Fact → Going) → with_spelled first c (map spelled_fact_of (drop i ts)) (λ us. f (map fact_of all ++ us)) ≡ with_spelled first c (map spelled_fact_of ts) f)
         → (f : List Fact → Going) → with_spelled first c (map spelled_fact_of (drop (i + 1) ts)) (λ us. f (map fact_of next ++ us)) ≡ with_spelled first c (map spelled_fact_of ts) f
     spelled_on vs all next u there is more so_far f =
-        let rest = map spelled_fact_of (drop (i + 1) ts) in
-        (λ j. with_spelled first c rest (λ us. f (added us j)))
-        ∙ sym (ap (λ (a : AllFound). with_values c a (λ ds. with_spelled first c rest (λ us. f (map fact_of all ++ record { relation = t.relation; values = ds } ∷ us)))) (spelled_rows (map spelled_of t.values.items) ∙ there))
+        (λ j. with_spelled first c (map spelled_fact_of (drop (i + 1) ts)) (λ us. f (added us j)))
+        ∙ sym (ap (λ (a : AllFound). with_values c a (λ ds. with_spelled first c (map spelled_fact_of (drop (i + 1) ts)) (λ us. f (map fact_of all ++ record { relation = t.relation; values = ds } ∷ us)))) (spelled_rows (map spelled_of t.values.items) ∙ there))
         ∙ sym (ap (λ (l : List SpelledTuple). with_spelled first c (map spelled_fact_of l) (λ us. f (map fact_of all ++ us))) (drop_more ts i t h ∙ ap (λ (s : SpelledTuple). s ∷ drop (i + 1) ts) (sym e)))
         ∙ so_far f
       where
