@@ -51,6 +51,10 @@ pushed_reversed ns n = reverse-append ns (n ∷ [])
 
 -- ---- one null
 
+-- The place of the cause.
+abbrev gives : ThreadOfProgram → Cause → Giving
+gives t c = giving (places_of t.places) (reverse t.given.items) c
+
 -- The thread after a null got its name.
 pub named : (ns names : Names) (t u : ThreadOfProgram) (gs : List Given) (c : Cause) (number place : ℕ) (n : NullName)
     → place ≡ (giving (places_of t.places) t.given.items c).number
@@ -61,13 +65,12 @@ pub named : (ns names : Names) (t u : ThreadOfProgram) (gs : List Given) (c : Ca
     → names ≡ ns ++ (n, record { update = number; attempt = 0; place = place }) ∷ []
     → HasDrawnOne number n c (thread_of ns t gs) (thread_of names u gs)
 named ns names t u gs c number place n is_place is_table is_given is_taken is_steps is_names =
-    let g : Giving = giving (places_of t.places) (reverse t.given.items) c in
-    let same : g ≡ giving (places_of t.places) t.given.items c = giving_reversed (places_of t.places) t.given.items c in
-    let at : place ≡ g.number = is_place ∙ sym (ap (λ (h : Giving). h.number) same) in
-    let in_names : names ≡ ns ++ (n, record { update = number; attempt = 0; place = g.number }) ∷ [] =
+    let same : gives t c ≡ giving (places_of t.places) t.given.items c = giving_reversed (places_of t.places) t.given.items c in
+    let at : place ≡ (gives t c).number = is_place ∙ sym (ap (λ (h : Giving). h.number) same) in
+    let in_names : names ≡ ns ++ (n, record { update = number; attempt = 0; place = (gives t c).number }) ∷ [] =
     is_names ∙ ap (λ (k : ℕ). ns ++ (n, record { update = number; attempt = 0; place = k }) ∷ []) at in
-    let in_places : places_of u.places ≡ g.places = is_table ∙ sym (ap (λ (h : Giving). h.places) same) in
-    let in_given : reverse u.given.items ≡ g.number ∷ reverse t.given.items =
+    let in_places : places_of u.places ≡ (gives t c).places = is_table ∙ sym (ap (λ (h : Giving). h.places) same) in
+    let in_given : reverse u.given.items ≡ (gives t c).number ∷ reverse t.given.items =
     ap reverse is_given ∙ pushed_reversed t.given.items place ∙ ap (λ (k : ℕ). k ∷ reverse t.given.items) at in
     λ i. record {
       names = in_names i;
@@ -96,12 +99,11 @@ none_drawn s seq k n b t e = ap (λ (m : ℕ). drawn_for s seq m k b t) e ∙ by
 pub drawn_on : (d e : Drawn) (nulls p : ℕ) (t u w : Thread) → p < nulls → u ≡ draw_next d (p + 1) t → HasNext d e → draw_all d (nulls - p) p t ≡ w
     → draw_all e (nulls - (p + 1)) (p + 1) u ≡ w
 drawn_on d e nulls p t u w h is next so_far =
-    let n : ℕ = nulls - (p + 1) in
     let left : nulls - p ≡ suc n = omega (arith, h) in
     let after : p + 1 ≡ suc p = omega arith in
     let more : e.variable ≡ suc d.variable = next.variable ∙ omega arith in
-    (λ i. draw_from (next.number i) (next.op i) (source_of (next.source i)) (facts_of (next.image i)) n (suc (after i)) (more i) u)
-    ∙ ap (draw_from d.number d.op (source_of d.source) (facts_of d.image) n (suc (suc p)) (suc d.variable)) (is ∙ ap (λ (k : ℕ). draw_next d k t) after)
+    (λ i. draw_from (next.number i) (next.op i) (source_of (next.source i)) (facts_of (next.image i)) (nulls - (p + 1)) (suc (after i)) (more i) u)
+    ∙ ap (draw_from d.number d.op (source_of d.source) (facts_of d.image) (nulls - (p + 1)) (suc (suc p)) (suc d.variable)) (is ∙ ap (λ (k : ℕ). draw_next d k t) after)
     ∙ sym (ap (λ (m : ℕ). draw_all d m p t) left)
     ∙ so_far
 
