@@ -30,7 +30,11 @@ pub struct Mark {
 
 impl Ground {
     /// A ground with these tuples and names, before any op.
-    pub fn new(alloc: Global, facts: IndexedFacts, names: Names) -> Ground {
+    pub fn new(alloc: Global, facts: IndexedFacts, names: Names) -> Ground
+        ensures facts { result.facts ≡ facts }
+        ensures names { result.names ≡ names }
+        ensures last { result.last ≡ 0 }
+    {
         Ground {
             facts,
             names,
@@ -42,6 +46,8 @@ impl Ground {
     /// The mark of the present moment.
     pub fn mark(&self) -> Mark
         ensures trail { result.trail ≡ length self.now.trail.items }
+        ensures names { result.names ≡ length self.now.names }
+        ensures last { result.last ≡ self.now.last }
     {
         Mark {
             last: self.last,
@@ -53,6 +59,8 @@ impl Ground {
     /// Takes back what was done since the mark.
     pub fn back_to(&mut self, mark: Mark) -> Result<(), Memory>
         ensures back { OnOk result (IsBackTo mark.trail self.old self.new) }
+        ensures names { OnOk result (self.new.names ≡ take mark.names self.old.names) }
+        ensures last { OnOk result (self.new.last ≡ mark.last) }
     {
         take_back(&mut self.facts, &mut self.trail, mark.trail)?;
         self.names.keep(mark.names);

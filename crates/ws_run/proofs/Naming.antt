@@ -99,7 +99,7 @@ none_drawn s seq k n b t e = ap (λ (m : ℕ). drawn_for s seq m k b t) e ∙ by
 pub drawn_on : (d e : Drawn) (nulls p : ℕ) (t u w : Thread) → p < nulls → u ≡ draw_next d (p + 1) t → HasNext d e → draw_all d (nulls - p) p t ≡ w
     → draw_all e (nulls - (p + 1)) (p + 1) u ≡ w
 drawn_on d e nulls p t u w h is next so_far =
-    let left : nulls - p ≡ suc n = omega (arith, h) in
+    let left : nulls - p ≡ suc (nulls - (p + 1)) = omega (arith, h) in
     let after : p + 1 ≡ suc p = omega arith in
     let more : e.variable ≡ suc d.variable = next.variable ∙ omega arith in
     (λ i. draw_from (next.number i) (next.op i) (source_of (next.source i)) (facts_of (next.image i)) (nulls - (p + 1)) (suc (after i)) (more i) u)
