@@ -48,6 +48,14 @@ module _ (ns : Names) (ts : List Fact) (os : List Tuple) (a : Option (List Fact)
   abbrev pub CalledSoFar : ℕ → List Tuple → Type 0
   CalledSoFar i chosen = after_called (map fact_of chosen) (all_called ns ts (map fact_of (drop i os))) ≡ a
 
+  none_before : (o : Option (List Fact)) → after_called [] o ≡ o
+  none_before None = refl
+  none_before (Some vs) = refl
+
+  -- None is called yet.
+  pub called_start : (chosen : List Tuple) → chosen ≡ [] → all_called ns ts (map fact_of os) ≡ a → CalledSoFar 0 chosen
+  called_start chosen e so = ap (λ (l : List Tuple). after_called (map fact_of l) (all_called ns ts (map fact_of os))) e ∙ none_before (all_called ns ts (map fact_of os)) ∙ so
+
   next_form : (i : ℕ) (o : Tuple) (u : Option Fact) → i < length os → o ≡ get_or os i o → u ≡ called ns ts (fact_of o)
       → all_called ns ts (map fact_of (drop i os)) ≡ option_and_then (λ t. option_map (λ us. t ∷ us) (all_called ns ts (map fact_of (drop (i + 1) os)))) u
   next_form i o u h e is =

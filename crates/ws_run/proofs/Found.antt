@@ -68,6 +68,13 @@ module _ {V B : Type 0} (m : V → B) (f : B → Found) (vs : List V) where
   abbrev pub FoundSoFar : ℕ → List Value → Type 0
   FoundSoFar i all = after_values (map datum_of all) (all_found f (map m (drop i vs))) ≡ all_found f (map m vs)
 
+  none_before : (r : AllFound) → after_values [] r ≡ r
+  none_before (AllThere es) = refl
+  none_before (OneLost u) = refl
+
+  pub found_none : (all : List Value) → all ≡ [] → FoundSoFar 0 all
+  found_none all e = ap (λ (l : List Value). after_values (map datum_of l) (all_found f (map m vs))) e ∙ none_before (all_found f (map m vs))
+
   one_after : (ds : List Datum) (d : Datum) (r : AllFound) → after_values ds (one_more d r) ≡ after_values (ds ++ d ∷ []) r
   one_after ds d (AllThere es) = ap AllThere (sym (append_assoc ds (d ∷ []) es))
   one_after ds d (OneLost u) = refl
@@ -135,6 +142,10 @@ module _ (g : Ground) (c : Course) (over : IsOver g c) where
             ∙ ap (λ (a : AllFound). with_values c a (λ ds. with_facts c (map fact_of (drop (i + 1) ts)) (λ us. f (map fact_of all ++ record { relation = t.relation; values = ds } ∷ us)))) (rows (map datum_of t.values.items) ∙ lost))
         x loses
 
+  -- None is found yet.
+  pub facts_none : (ts : List Tuple) (all : List Tuple) → all ≡ [] → (f : List Fact → Going) → with_facts c (map fact_of ts) (λ us. f (map fact_of all ++ us)) ≡ with_facts c (map fact_of ts) f
+  facts_none ts all e f = ap (λ (l : List Tuple). with_facts c (map fact_of ts) (λ us. f (map fact_of l ++ us))) e
+
   -- All are found.
   pub facts_end : (ts : List Tuple) (i : ℕ) (all : List Tuple) → length ts ≤ i
       → ((f : List Fact → Going) → with_facts c (map fact_of (drop i ts)) (λ us. f (map fact_of all ++ us)) ≡ with_facts c (map fact_of ts) f)
@@ -182,6 +193,10 @@ module _ (first : ℕ) (g : Ground) (c : Course) (over : IsOver g c) where
             ∙ ap (λ (l : List SpelledTuple). with_spelled first c (map spelled_fact_of l) (λ us. f (map fact_of all ++ us))) (drop_more ts i t h ∙ ap (λ (s : SpelledTuple). s ∷ drop (i + 1) ts) (sym e))
             ∙ ap (λ (a : AllFound). with_values c a (λ ds. with_spelled first c (map spelled_fact_of (drop (i + 1) ts)) (λ us. f (map fact_of all ++ record { relation = t.relation; values = ds } ∷ us)))) (spelled_rows (map spelled_of t.values.items) ∙ lost))
         x loses
+
+  -- None is found yet.
+  pub spelled_none : (ts : List SpelledTuple) (all : List Tuple) → all ≡ [] → (f : List Fact → Going) → with_spelled first c (map spelled_fact_of ts) (λ us. f (map fact_of all ++ us)) ≡ with_spelled first c (map spelled_fact_of ts) f
+  spelled_none ts all e f = ap (λ (l : List Tuple). with_spelled first c (map spelled_fact_of ts) (λ us. f (map fact_of l ++ us))) e
 
   -- All are found.
   pub spelled_end : (ts : List SpelledTuple) (i : ℕ) (all : List Tuple) → length ts ≤ i

@@ -205,7 +205,7 @@ fn deleted(
 }
 
 // The tuples that have these forms by names, if each has one.
-#[tactic(auto, using(crate::proofs::Called::called_on, crate::proofs::Called::called_none, crate::proofs::Called::called_all))]
+#[tactic(auto, using(crate::proofs::Called::called_start, crate::proofs::Called::called_on, crate::proofs::Called::called_none, crate::proofs::Called::called_all))]
 fn all_called(
     alloc: Global,
     names: &Names,

@@ -19,6 +19,7 @@ use ws_names::{Cause, Names, give};
 
 /// Names the nulls that the last step drew; `before` is the number of nulls before that step. Each gets its name from the
 /// mapping, its variable, and the image of the left side.
+#[tactic(auto, using(crate::proofs::Naming::none_drawn))]
 pub(crate) fn name_drawn(
     alloc: Global,
     setting: &Setting<'_>,
@@ -64,6 +65,7 @@ struct Drawn {
 }
 
 // Names the nulls of the op at the places after `before`, up to `nulls`.
+#[tactic(auto, using(crate::proofs::Naming::drawn_on, crate::proofs::Naming::drawn_all))]
 fn name_all(
     alloc: Global,
     names: &mut Names,
@@ -114,6 +116,7 @@ impl Drawn {
 }
 
 // Names one null, which has this cause.
+#[tactic(auto, using(crate::proofs::Naming::named))]
 fn name_one(
     number: u32,
     names: &mut Names,

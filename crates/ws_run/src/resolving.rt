@@ -74,6 +74,7 @@ fn stands_in(facts: &IndexedFacts, null: Null) -> bool
 }
 
 /// The values with nulls in place of names; halts if no tuple has one of the unknowns.
+#[tactic(auto, using(crate::proofs::Found::found_none, crate::proofs::Found::found_on, crate::proofs::Found::lost_at, crate::proofs::Found::wants_memory, crate::proofs::Found::found_end))]
 pub(crate) fn found_all(
     alloc: Global,
     ground: &Ground,
@@ -132,6 +133,7 @@ pub(crate) fn found_spelled(
     Ok(all)
 }
 
+#[tactic(auto, using(crate::proofs::Found::found_none, crate::proofs::Found::found_on, crate::proofs::Found::lost_at, crate::proofs::Found::wants_memory, crate::proofs::Found::found_end))]
 fn found_row(
     alloc: Global,
     ground: &Ground,
