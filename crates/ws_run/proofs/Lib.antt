@@ -1,5 +1,5 @@
 pub mod Onward
-pub mod Following
+pub mod Followed
 pub mod Found
 pub mod Sources
 pub mod Called

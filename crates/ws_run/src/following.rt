@@ -14,7 +14,7 @@ use run_note::{Rewriting, Way};
 use std::alloc::Global;
 
 /// What the value has become by these steps.
-#[tactic(auto, using(crate::proofs::Following::followed_on, crate::proofs::Following::followed_all))]
+#[tactic(auto, using(crate::proofs::Followed::followed_on, crate::proofs::Followed::followed_all))]
 pub fn follow(alloc: Global, steps: &[Step], value: &Value) -> Result<Value, Memory>
     ensures value { IfOk result (λ now. datum_of now ≡
         moved_over (ways_of steps.now) (datum_of value.now)) }
