@@ -71,6 +71,7 @@ impl Names {
     }
 
     /// Gives the null a name. A null that has several names goes by the first, and a name of several nulls is that of the first.
+    #[tactic(auto, using(crate::proofs::Kept::names_added, crate::proofs::Kept::nulls_added, crate::proofs::Kept::names_undone))]
     pub fn give(&mut self, null: Null, name: Null) -> Result<(), Memory>
         ensures ok { OnOk result (self.new ≡ self.old ++ (null_of null, null_of name) ∷ []) }
         ensures err { OnErr result (self.new ≡ self.old) }
@@ -87,6 +88,7 @@ impl Names {
     }
 
     /// Takes back all names but the first `count`.
+    #[tactic(auto, using(crate::proofs::Kept::kept_pairs))]
     pub fn keep(&mut self, count: usize)
         ensures kept { self.new ≡ take count self.old }
     {
@@ -148,12 +150,14 @@ impl Names {
     }
 
     /// The tuple by names.
+    #[tactic(auto, using(crate::proofs::Kept::shared_named))]
     pub fn tuple(&self, alloc: Global, tuple: &Tuple) -> Result<Tuple, Memory>
         ensures named { IfOk result
             (λ named. fact_of named ≡ fact_named self.now (fact_of tuple.now)) }
     {
         if has_no_null(tuple.values.as_slice()) {
-            return tuple.share();
+            let same = tuple.share()?;
+            return Ok(same);
         }
         self.renamed(alloc, tuple)
     }
@@ -186,7 +190,7 @@ impl Names {
 }
 
 // Takes back all pairs but the first `count`, the last of them first.
-#[tactic(auto, using(crate::proofs::Kept::kept_on, crate::proofs::Kept::fewer_left, crate::proofs::Kept::kept_all))]
+#[tactic(auto, using(crate::proofs::Kept::kept_on, crate::proofs::Kept::fewer_left, crate::proofs::Kept::kept_all, crate::proofs::Kept::names_left, crate::proofs::Kept::nulls_left))]
 fn keep_first(drawn: &mut List<Pair>, names: &mut Firsts, nulls: &mut Firsts, count: usize)
     requires names { IsIndexOf null_in drawn.old.items names.old }
     requires nulls { IsIndexOf name_in drawn.old.items nulls.old }
