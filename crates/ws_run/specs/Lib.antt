@@ -6,3 +6,4 @@ pub mod Drawing
 pub mod DrawnMeanings
 pub mod Halting
 pub mod Running
+pub mod Coming
