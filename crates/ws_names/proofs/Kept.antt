@@ -99,4 +99,4 @@ named_all ns vs i h so_far =
 pub shared_named : (ns : Names) (t u : Tuple) (b : Bool) → b ≡ true → (IsTrue b → (ms : Names) → map (datum_named ms) (map datum_of t.values.items) ≡ map datum_of t.values.items)
     → u ≡ t → fact_of u ≡ fact_named ns (fact_of t)
 shared_named ns t u b is same e =
-    ap fact_of e ∙ sym (ap (λ (ds : List Datum). record { relation = t.relation; values = ds }) (same (subst IsTrue (sym is) tt) ns))
+    ap fact_of e ∙ sym (ap (λ (ds : List Datum). record { relation = t.relation; values = ds }) (same (subst IsTrue (sym is) refl) ns))
