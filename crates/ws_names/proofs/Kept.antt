@@ -1,6 +1,7 @@
 -- Pairs of nulls with their names: found by either, added, taken back, and values by names.
-use Rattle.std.proofs.Common.{◌≡◌, ◌∙◌, ap, refl, sym, subst, ℕ, suc, ◌+◌, ◌<◌, ◌≤◌, Bool, true, IsTrue, List, [], ◌∷◌, ◌++◌, map, length, take, find, get_or, Option, length-append, arith}
+use Rattle.std.proofs.Common.{◌≡◌, ◌∙◌, ap, refl, sym, subst, ℕ, suc, ◌+◌, ◌<◌, ◌≤◌, Bool, true, false, IsTrue, OnOk, OnErr, Result, Ok, Err, List, [], ◌∷◌, ◌++◌, map, length, take, find, get_or, Option, length-append, arith}
 use Rattle.std.specs.Option.{option_map, option_and_then}
+use Rattle.std.specs.Result.{is_err}
 use Rattle.std.specs.List.{slice_get}
 use Rattle.std.proofs.lemmas.List.{map-append, take-append-le, take_all, take-map, take_more}
 use Rattle.std.specs.BTreeMap.{BTreeMap}
@@ -10,10 +11,10 @@ use Rattle.base_types.specs.declared.tuples.Tuple.{Tuple}
 use Rattle.base_types.specs.declared.values.Value.{Value}
 use Rattle.def_chase.specs.Values.{Datum, NullName}
 use Rattle.def_workspace.specs.Names.{Names, datum_named, fact_named}
-use Rattle.ws_names.specs.Firsts.{IsIndexOf, NotesFirst, ForgetsFirst, is_same, place_in}
+use Rattle.ws_names.specs.Firsts.{AreSameFirsts, IsIndexOf, NotesFirst, ForgetsFirst, is_same, place_in}
 use Rattle.ws_names.specs.Meanings.{IsPopped, name_in, null_in, pair_of}
 use Rattle.ws_names.specs.declared.names.Pair.{Pair}
-use Rattle.ws_names.proofs.Indexed.{added, taken_out, undone, found_at, found_under}
+use Rattle.ws_names.proofs.Indexed.{added, same_index, taken_out, undone, found_at, found_under}
 
 -- ---- found
 
@@ -41,6 +42,19 @@ pub names_undone : (ps qs : List Pair) (k : Null) (i : ℕ) (m n o : BTreeMap Nu
 names_undone ps qs k i m n o index notes forgets at same =
     subst (λ (l : List Pair). IsIndexOf null_in l o) (sym same)
     (undone null_in ps record { null = k; name = k } m n o index (subst (λ (j : ℕ). NotesFirst k j m n) at notes) (subst (λ (j : ℕ). ForgetsFirst k j n o) at forgets))
+
+-- The names of nulls are as before.
+pub nulls_same : (ps qs : List Pair) (m n : BTreeMap Null ℕ) → IsIndexOf name_in ps m → AreSameFirsts m n → qs ≡ ps → IsIndexOf name_in qs n
+nulls_same ps qs m n index same is = subst (λ (l : List Pair). IsIndexOf name_in l n) (sym is) (same_index name_in ps m n index same)
+
+-- What holds after a refusal, or after none.
+pub erred : {A B : Type 0} (r : Result A B) (P : Type 0) → OnErr r P → is_err r ≡ true → P
+erred (Ok a) P h e = let never : false ≡ true = e in cc
+erred (Err b) P h e = h
+
+pub passed : {A B : Type 0} (r : Result A B) (P : Type 0) → OnOk r P → is_err r ≡ false → P
+passed (Ok a) P h e = h
+passed (Err b) P h e = let never : true ≡ false = e in cc
 
 -- ---- taken back
 
