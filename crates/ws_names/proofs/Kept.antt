@@ -1,11 +1,11 @@
 -- Pairs of nulls with their names: found by either, added, taken back, and values by names.
-use Rattle.std.proofs.Common.{◌≡◌, ◌∙◌, ap, refl, sym, subst, ℕ, suc, ◌+◌, ◌<◌, ◌≤◌, Bool, true, false, IsTrue, OnOk, OnErr, Result, Ok, Err, List, [], ◌∷◌, ◌++◌, map, length, take, find, get_or, Option, length-append, arith}
+use Rattle.std.proofs.Common.{◌≡◌, ◌∙◌, ap, refl, sym, subst, ℕ, ◌+◌, ◌<◌, ◌≤◌, Bool, true, false, IsTrue, OnOk, OnErr, Result, Ok, Err, List, [], ◌∷◌, ◌++◌, map, length, take, find, get_or, Option, length-append, arith}
 use Rattle.std.specs.Option.{option_map, option_and_then}
 use Rattle.std.specs.Result.{is_err}
 use Rattle.std.specs.List.{slice_get}
 use Rattle.std.proofs.lemmas.List.{map-append, take-append-le, take_all, take-map, take_more}
 use Rattle.std.specs.BTreeMap.{BTreeMap}
-use Rattle.base_types.specs.Meanings.{datum_of, fact_of, null_of}
+use Rattle.base_types.specs.Meanings.{datum_of, fact_of}
 use Rattle.base_types.specs.declared.nulls.Null.{Null}
 use Rattle.base_types.specs.declared.tuples.Tuple.{Tuple}
 use Rattle.base_types.specs.declared.values.Value.{Value}
