@@ -137,9 +137,9 @@ module _ (g : Ground) (c : Course) (over : IsOver g c) where
     fact_lost all x loses so_far =
         misses_as (λ n. all_found (found g.names g.facts) (map datum_of t.values.items) ≡ OneLost n) (λ n. (f : List Fact → Going) → with_facts c (map fact_of ts) f ≡ Halted (NotThere n) c.thread)
         (λ n lost f.
-            sym (so_far f)
-            ∙ ap (λ (l : List Tuple). with_facts c (map fact_of l) (λ us. f (map fact_of all ++ us))) (drop_more ts i t h ∙ ap (λ (s : Tuple). s ∷ drop (i + 1) ts) (sym e))
-            ∙ ap (λ (a : AllFound). with_values c a (λ ds. with_facts c (map fact_of (drop (i + 1) ts)) (λ us. f (map fact_of all ++ record { relation = t.relation; values = ds } ∷ us)))) (rows (map datum_of t.values.items) ∙ lost))
+        sym (so_far f)
+        ∙ ap (λ (l : List Tuple). with_facts c (map fact_of l) (λ us. f (map fact_of all ++ us))) (drop_more ts i t h ∙ ap (λ (s : Tuple). s ∷ drop (i + 1) ts) (sym e))
+        ∙ ap (λ (a : AllFound). with_values c a (λ ds. with_facts c (map fact_of (drop (i + 1) ts)) (λ us. f (map fact_of all ++ record { relation = t.relation; values = ds } ∷ us)))) (rows (map datum_of t.values.items) ∙ lost))
         x loses
 
   -- None is found yet.
@@ -189,9 +189,9 @@ module _ (first : ℕ) (g : Ground) (c : Course) (over : IsOver g c) where
     spelled_lost all x loses so_far =
         misses_as (λ n. all_found (found_spelled first g.names g.facts) (map spelled_of t.values.items) ≡ OneLost n) (λ n. (f : List Fact → Going) → with_spelled first c (map spelled_fact_of ts) f ≡ Halted (NotThere n) c.thread)
         (λ n lost f.
-            sym (so_far f)
-            ∙ ap (λ (l : List SpelledTuple). with_spelled first c (map spelled_fact_of l) (λ us. f (map fact_of all ++ us))) (drop_more ts i t h ∙ ap (λ (s : SpelledTuple). s ∷ drop (i + 1) ts) (sym e))
-            ∙ ap (λ (a : AllFound). with_values c a (λ ds. with_spelled first c (map spelled_fact_of (drop (i + 1) ts)) (λ us. f (map fact_of all ++ record { relation = t.relation; values = ds } ∷ us)))) (spelled_rows (map spelled_of t.values.items) ∙ lost))
+        sym (so_far f)
+        ∙ ap (λ (l : List SpelledTuple). with_spelled first c (map spelled_fact_of l) (λ us. f (map fact_of all ++ us))) (drop_more ts i t h ∙ ap (λ (s : SpelledTuple). s ∷ drop (i + 1) ts) (sym e))
+        ∙ ap (λ (a : AllFound). with_values c a (λ ds. with_spelled first c (map spelled_fact_of (drop (i + 1) ts)) (λ us. f (map fact_of all ++ record { relation = t.relation; values = ds } ∷ us)))) (spelled_rows (map spelled_of t.values.items) ∙ lost))
         x loses
 
   -- None is found yet.

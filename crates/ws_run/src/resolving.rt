@@ -75,11 +75,7 @@ fn stands_in(facts: &IndexedFacts, null: Null) -> bool
 
 /// The values with nulls in place of names; halts if no tuple has one of the unknowns.
 #[tactic(auto, using(crate::proofs::Found::found_none, crate::proofs::Found::found_on, crate::proofs::Found::lost_at, crate::proofs::Found::wants_memory, crate::proofs::Found::found_end))]
-pub(crate) fn found_all(
-    alloc: Global,
-    ground: &Ground,
-    values: &[Value],
-) -> Result<ValueList, Halt>
+pub(crate) fn found_all(alloc: Global, ground: &Ground, values: &[Value]) -> Result<ValueList, Halt>
     ensures there { IfOk result (λ all.
         all_found (found_value_of ground.now.names ground.now.facts) (map datum_of values.now) ≡
         AllThere (data_of all)) }
