@@ -1,11 +1,13 @@
 //! One step of an op, with its note and the reason why it took tuples away.
-ghost use Rattle.std.specs.Prelude.{◌≡◌, ◌<◌, None, OnOk};
+ghost use Rattle.std.specs.Prelude.{◌≡◌, ◌<◌, None, IfOk, OnOk};
 ghost use Rattle.std.specs.Option.{option_map, option_copied};
-ghost use Rattle.def_chase.specs.Repository.{IsRepository};
+ghost use Rattle.def_chase.specs.Repository.{IsRepository, apply};
 ghost use Rattle.def_chase.specs.Updates.{direction_of};
 ghost use Rattle.base_types.specs.Meanings.{choice_of};
 ghost use Rattle.chase_update.specs.Wishes.{wish};
+ghost use Rattle.def_provenance.specs.Puts.{way_in};
 ghost use Rattle.run_step.specs.Turns.{StepsBy, HasStepped, seen_with};
+ghost use Rattle.ws_run.specs.Moves.{step_way};
 
 use crate::settings::Setting;
 use crate::threads::{Step, Taking};
@@ -40,6 +42,9 @@ pub(crate) fn make(
         view.old.below (option_map choice_of (option_copied choice.entry))
         program.old program.new) }
     ensures seen { OnOk result (view.new ≡ seen_with view.old program.new.attempt.own) }
+    ensures way { IfOk result (λ made. step_way made ≡ way_in setting.now.in_force.now
+        (apply view.old.below program.old.attempt.own) program.old.attempt.operation
+        (option_map choice_of (option_copied choice.entry)) program.old.attempt.phase) }
 {
     let taking = taking(alloc, setting, view, program)?;
     let mappings = setting.in_force.mappings();
