@@ -123,6 +123,13 @@ impl<T> List<T> {
         }
     }
 
+    /// Gives back the memory for further items. The items stay as they are.
+    pub fn fit(&mut self)
+        ensures same { self.new.items ≡ self.old.items }
+    {
+        self.items.shrink_to_fit();
+    }
+
     /// Moves all items of another list to the end of this one. It is never refused if `spare` is at least their number. If it is
     /// refused, both lists are unchanged.
     pub fn append(&mut self, other: &mut List<T>) -> Result<(), Memory>

@@ -4,6 +4,7 @@ ghost use Rattle.std.specs.Option.{option_copied};
 ghost use Rattle.std.specs.Cmp.Lexicographic.{slice_cmp};
 ghost use Rattle.def_chase.specs.Values.{datum_cmp};
 ghost use Rattle.base_types.specs.Contents.{data_of};
+ghost use Rattle.base_types.specs.Held.{row_held};
 
 use crate::copying::TryCopy;
 use crate::lists::List;
@@ -22,7 +23,19 @@ pub type ValueList = List<Value>;
 /// list.
 #[derive(Debug, Drop)]
 pub struct Row {
-    values: Option<Arc<ValueList>>,
+    held: Held,
+}
+
+// The values that copies share. Up to four lie in one block of memory with the number of the copies; more are a list, whose items
+// lie in a second block.
+#[derive(Debug, Drop)]
+enum Held {
+    None,
+    One(Arc<[Value; 1]>),
+    Two(Arc<[Value; 2]>),
+    Three(Arc<[Value; 3]>),
+    Four(Arc<[Value; 4]>),
+    Many(Arc<ValueList>),
 }
 
 impl Model for Row {
@@ -32,7 +45,7 @@ impl Model for Row {
 
     ghost Value = { Listed ValueHeld };
 
-    ghost view = { λ r. row_held r.values };
+    ghost view = { λ r. row_held r.held };
 }
 
 impl Row {
@@ -40,28 +53,51 @@ impl Row {
     pub fn empty() -> Row
         ensures empty { result.items ≡ [] }
     {
-        Row { values: None }
+        Row { held: Held::None }
     }
 
     /// The row of these values.
     pub fn new(alloc: Global, values: ValueList) -> Result<Row, Memory>
         ensures same { IfOk result (λ row. row.items ≡ values.items) }
     {
+        match values.len() {
+            0 => Ok(Row::empty()),
+            1 => Ok(Row::of(Held::One(shared::<1>(alloc, values)?))),
+            2 => Ok(Row::of(Held::Two(shared::<2>(alloc, values)?))),
+            3 => Ok(Row::of(Held::Three(shared::<3>(alloc, values)?))),
+            4 => Ok(Row::of(Held::Four(shared::<4>(alloc, values)?))),
+            _ => Row::of_list(alloc, values),
+        }
+    }
+
+    // The row of a list of any length, whose items stay in a block of their own.
+    fn of_list(alloc: Global, mut values: ValueList) -> Result<Row, Memory>
+        ensures same { IfOk result (λ row. row.items ≡ values.items) }
+    {
+        values.fit();
         match Arc::new(alloc, values) {
-            Ok(values) => Ok(Row {
-                values: Some(values),
-            }),
+            Ok(values) => Ok(Row::of(Held::Many(values))),
             Err(_) => Err(Memory),
         }
+    }
+
+    fn of(held: Held) -> Row
+        ensures held { result ≡ row_held held }
+    {
+        Row { held }
     }
 
     /// All values in order.
     pub fn as_slice(&self) -> &[Value]
         ensures items { result.now ≡ self.now.items }
     {
-        match &self.values {
-            Some(values) => values.as_slice(),
-            None => &[],
+        match &self.held {
+            Held::None => &[],
+            Held::One(values) => slice_of(values),
+            Held::Two(values) => slice_of(values),
+            Held::Three(values) => slice_of(values),
+            Held::Four(values) => slice_of(values),
+            Held::Many(values) => values.as_slice(),
         }
     }
 
@@ -97,11 +133,35 @@ impl Row {
     pub fn share(&self) -> Result<Row, Memory>
         ensures same { IfOk result (λ row. row ≡ self.now) }
     {
-        match &self.values {
-            Some(values) => Ok(Row {
-                values: Some(Arc::try_clone(values)?),
-            }),
-            None => Ok(Row { values: None }),
-        }
+        Ok(Row::of(match &self.held {
+            Held::None => Held::None,
+            Held::One(values) => Held::One(Arc::try_clone(values)?),
+            Held::Two(values) => Held::Two(Arc::try_clone(values)?),
+            Held::Three(values) => Held::Three(Arc::try_clone(values)?),
+            Held::Four(values) => Held::Four(Arc::try_clone(values)?),
+            Held::Many(values) => Held::Many(Arc::try_clone(values)?),
+        }))
     }
+}
+
+// The values of a list of `N` values, in one block.
+fn shared<const N: usize>(alloc: Global, values: ValueList) -> Result<Arc<[Value; N]>, Memory>
+    requires { length values.items ≡ N }
+    ensures same { IfOk result (λ shared. shared.value ≡ values.items) }
+{
+    let Ok(values) = <[Value; N]>::try_from(values.into_vec()) else {
+        unreachable!()
+    };
+    match Arc::new(alloc, values) {
+        Ok(shared) => Ok(shared),
+        Err(_) => Err(Memory),
+    }
+}
+
+// The values of a block.
+fn slice_of<const N: usize>(values: &Arc<[Value; N]>) -> &[Value]
+    ensures same { result.now ≡ values.now.value }
+{
+    let values = &**values;
+    &values[..]
 }
