@@ -1,7 +1,7 @@
 # Workspaces of yt: it is killed at every call of the system and at random moments, and the power is cut; a disk holds what a crash may leave of
 # real conversations; each of its calls fails, each request of memory is refused, its streams are closed; its path leads to what is no good file,
 # there is no room, another program changes the file; files are damaged and forged; many processes change one file at once; garbled scripts
-# and files are told as the reference tells them, and one process is sent garbled commands by the thousand.
+# and files are told as the reference tells them, and one process is sent garbled commands and changes by the thousand.
 workspace=$(realpath -m "${WORKSPACE:-crates/yt/out/yt}")
 calls=$stored/calls.so
 record=$stored/record.so
@@ -50,4 +50,5 @@ else
   on_workspaces fuzz scripts 1 3000
   on_workspaces fuzz files 1 1000
   on_workspaces lines 1 1500 5000
+  on_workspaces changes
 fi

@@ -176,7 +176,7 @@ impl Speaker {
 }
 
 // The point to go back to if what is done in memory is not recorded; None unless further commands may come.
-fn point_of(alloc: Global, space: &Space, stays: bool) -> Result<Option<Point>, Memory> {
+fn point_of(alloc: Global, space: &mut Space, stays: bool) -> Result<Option<Point>, Memory> {
     if stays {
         return Ok(Some(space.point(alloc)?));
     }

@@ -19,7 +19,7 @@ pub struct Point {
 
 impl Space {
     /// The workspace as it is now. Each line so far must be recorded.
-    pub fn point(&self, alloc: Global) -> Result<Point, Memory> {
+    pub fn point(&mut self, alloc: Global) -> Result<Point, Memory> {
         let mut relations = Vec::new(alloc);
         add_relations(&mut relations, self.relations.as_slice())?;
         Ok(Point {

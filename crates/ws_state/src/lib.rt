@@ -7,6 +7,7 @@
 
 mod active;
 mod compared;
+mod counted;
 mod effects;
 mod folding;
 mod heads;

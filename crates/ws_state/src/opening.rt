@@ -48,6 +48,7 @@ impl State {
             replays: 0,
             latest: None,
             redeclared: false,
+            counted: None,
             last: head.last,
             world,
         };

@@ -3,35 +3,36 @@ ghost use Rattle.std.specs.Prelude.{◌≡◌, take, OnOk, IfOk};
 ghost use Rattle.ws_state.specs.Stands.{what_stands, what_stood};
 ghost use Rattle.ws_state.specs.Returns.{IsPlaceIn, IsPointOf, IsBackAt, LeadsBack, RunsAddUp};
 
+use crate::counted::count_again;
 use crate::latest::keep;
-use crate::states::{Event, HeldList, State};
+use crate::states::{HeldList, State};
 use crate::worlds::{WaitingList, World, renew};
 use base_types::{List, MappingList, Memory, TryCopy};
 use std::alloc::Global;
 use std::collections::BTreeMap;
 use std::mem;
-use ws_lines::{GivenList, TableList};
+use ws_lines::TableList;
 use ws_run::Mark;
 
-/// What a state goes back to. It serves only the state that gave it, and only until that state goes back to an earlier point.
+/// What a state goes back to. It serves only the state that gave it, and only until that state gives another point or goes back
+/// to one.
 #[derive(Drop)]
 pub struct Point {
     tables: TableList,
     mappings: MappingList,
     last: u32,
     pub(crate) replays: u32,
-    held: Vec<HeldBefore>,
-    forgotten: Vec<bool>,
+    said: SaidBefore,
     waiting: WaitingList,
     pub(crate) world: WorldBefore,
 }
 
-// What was held of an update: whether it was undone, the number of its places, and its answers of the last fold.
+// How many updates were held and lines said, and how many places each update had that waited.
 #[derive(Drop)]
-struct HeldBefore {
-    is_undone: bool,
-    places: usize,
-    first: Option<GivenList>,
+struct SaidBefore {
+    held: usize,
+    events: usize,
+    places: Vec<usize>,
 }
 
 // What stood.
@@ -44,40 +45,35 @@ pub(crate) struct WorldBefore {
 }
 
 impl State {
-    /// The state as it is now, as a point to go back to.
-    pub fn point(&self, alloc: Global) -> Result<Point, Memory>
-        ensures place { IfOk result (λ point. IsPointOf self.now point) }
+    /// The state as it is now, as a point to go back to. Its cost grows with the updates that wait, and not with those that
+    /// stand.
+    pub fn point(&mut self, alloc: Global) -> Result<Point, Memory>
+        ensures place { IfOk result (λ point. IsPointOf self.new point) }
+        ensures stands { what_stands self.new.world ≡ what_stands self.old.world }
+        ensures fold { what_stood self.new ≡ what_stood self.old }
     {
+        drop(mem::replace(&mut self.counted, None));
         Ok(Point {
             tables: self.tables.copy(alloc)?,
             mappings: self.mappings.copy(alloc)?,
             last: self.last,
             replays: self.replays,
-            held: self.held_now(alloc)?,
-            forgotten: self.forgotten_now(alloc)?,
+            said: self.said_now(alloc)?,
             waiting: self.world.waiting.copy(alloc)?,
             world: self.world.kept(alloc)?,
         })
     }
 
-    fn held_now(&self, alloc: Global) -> Result<Vec<HeldBefore>, Memory> {
-        let mut all = Vec::new(alloc);
-        for held in &self.held {
-            all.push(HeldBefore {
-                is_undone: held.is_undone,
-                places: held.places.len(),
-                first: held.first.copy(alloc)?,
-            })?;
+    fn said_now(&self, alloc: Global) -> Result<SaidBefore, Memory> {
+        let mut places = Vec::new(alloc);
+        for waiting in self.world.waiting.as_slice() {
+            places.push(count_places(&self.held, waiting.held))?;
         }
-        Ok(all)
-    }
-
-    fn forgotten_now(&self, alloc: Global) -> Result<Vec<bool>, Memory> {
-        let mut all = Vec::new(alloc);
-        for event in &self.events {
-            all.push(event.is_forgotten)?;
-        }
-        Ok(all)
+        Ok(SaidBefore {
+            held: self.held.len(),
+            events: self.events.len(),
+            places,
+        })
     }
 
     /// Takes back all that was done since the point. If lines only ran, the runs are taken back; if lines were replayed, they are
@@ -92,8 +88,7 @@ impl State {
             mappings,
             last,
             replays,
-            held,
-            forgotten,
+            said,
             waiting,
             world,
         } = point;
@@ -101,8 +96,11 @@ impl State {
         renew(&mut self.tables, tables);
         renew(&mut self.mappings, mappings);
         self.last = last;
-        held_back_to(alloc, &mut self.held, &mut self.places, held);
-        events_back_to(&mut self.events, &forgotten);
+        let counted = mem::replace(&mut self.counted, None);
+        count_again(alloc, &mut self.held, &mut self.events, counted);
+        self.events.truncate(said.events);
+        held_back_to(&mut self.held, &mut self.places, said.held);
+        places_back_to(alloc, &mut self.held, &waiting, &said.places);
         if self.replays == replays {
             renew(&mut self.world.waiting, waiting);
             self.world.back_to(alloc, world)?;
@@ -120,28 +118,28 @@ pub fn runs_add_up()
     ensures { RunsAddUp }
 {}
 
-fn held_back_to(
-    alloc: Global,
-    held: &mut HeldList,
-    places: &mut BTreeMap<u32, usize>,
-    before: Vec<HeldBefore>,
-) {
-    for _ in before.len()..held.len() {
+fn held_back_to(held: &mut HeldList, places: &mut BTreeMap<u32, usize>, count: usize) {
+    for _ in count..held.len() {
         if let Some(held) = held.pop() {
             places.remove(&held.update.number);
         }
     }
-    for (held, before) in held.iter_mut().zip(before) {
-        held.is_undone = before.is_undone;
-        held.first = before.first;
-        shorten(alloc, &mut held.places, before.places);
+}
+
+// Gives the updates that waited as many places as then. The others have as many, since they did not run.
+fn places_back_to(alloc: Global, held: &mut HeldList, waiting: &WaitingList, places: &[usize]) {
+    for (waiting, count) in waiting.as_slice().iter().zip(places) {
+        if let Some(held) = held.get_mut(waiting.held) {
+            shorten(alloc, &mut held.places, *count);
+        }
     }
 }
 
-fn events_back_to(events: &mut Vec<Event>, forgotten: &[bool]) {
-    events.truncate(forgotten.len());
-    for (event, is_forgotten) in events.iter_mut().zip(forgotten) {
-        event.is_forgotten = *is_forgotten;
+// The number of places of the update held at this place.
+fn count_places(held: &HeldList, place: usize) -> usize {
+    match held.get(place) {
+        Some(held) => held.places.len(),
+        None => 0,
     }
 }
 
@@ -179,8 +177,8 @@ impl World {
     }
 }
 
-// Keeps the first `count` items.
-fn shorten<T: Drop>(alloc: Global, list: &mut List<T>, count: usize)
+/// Keeps the first `count` items.
+pub(crate) fn shorten<T: Drop>(alloc: Global, list: &mut List<T>, count: usize)
     ensures first { list.new.items ≡ take count list.old.items }
 {
     let mut kept = mem::replace(list, List::new(alloc)).into_vec();

@@ -4,6 +4,7 @@ ghost use Rattle.ws_state.specs.Stands.{what_stands, what_stood, GoesOn};
 ghost use Rattle.ws_state.specs.Returns.{IsBackAt, TakesBack};
 
 use crate::compared::{Before, by_held, same_writes, status_in};
+use crate::counted::keep_counted;
 use crate::latest::{Latest, keep, take_latest};
 use crate::states::{Event, HeldList, Said, State, Told};
 use crate::visible::{Visible, came_between, visible_of};
@@ -69,6 +70,7 @@ impl State {
         ensures back { OnOk result (IsBackAt latest.world (what_stands self.old.world)
             (what_stands self.new.world)) }
     {
+        keep_counted(alloc, &mut self.counted, &self.held, &self.events)?;
         let before = visible_of(alloc, &self.world.ground)?;
         let Latest { place, world, .. } = latest;
         self.replays = self.replays.wrapping_add(1);
@@ -112,10 +114,11 @@ impl State {
         Ok(told)
     }
 
-    // What a replay is to be compared with.
+    // What a replay is to be compared with. Which lines counted before it is kept.
     fn before(&mut self, alloc: Global) -> Result<Before, Memory>
         ensures fold { what_stood self.new ≡ what_stood self.old }
     {
+        keep_counted(alloc, &mut self.counted, &self.held, &self.events)?;
         let statuses = self.statuses(alloc)?;
         let visible = visible_of(alloc, &self.world.ground)?;
         let order = mem::replace(&mut self.world.order, StandingList::new(alloc));

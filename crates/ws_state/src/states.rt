@@ -3,6 +3,7 @@ ghost use Rattle.std.specs.Prelude.{◌≡◌, None, OnOk, IfOk, IfSome};
 ghost use Rattle.ws_state.specs.Stands.{what_stands, what_stood, HasGoneOn, IfRuns, IfSays, IfUndoes};
 ghost use Rattle.ws_state.specs.Returns.{WasSaid, TakesBack};
 
+use crate::counted::Counted;
 use crate::latest::{Latest, keep};
 use crate::outcomes::Tried;
 use crate::replays::Replayed;
@@ -60,7 +61,7 @@ pub struct Told {
 
 /// The state that a log stands for. `latest` keeps what stood before the latest update, until another line runs. `redeclared`
 /// says whether a mapping was declared once more since the last replay, so that a replay may give something else than what
-/// stands.
+/// stands. `counted` keeps which lines counted before the first undo, redo or forgetting since the latest point.
 #[derive(Drop)]
 pub struct State {
     pub(crate) tables: TableList,
@@ -73,6 +74,7 @@ pub struct State {
     pub(crate) replays: u32,
     pub(crate) latest: Option<Latest>,
     pub(crate) redeclared: bool,
+    pub(crate) counted: Option<Counted>,
     pub(crate) last: u32,
     pub(crate) world: World,
 }
@@ -92,6 +94,7 @@ impl State {
             replays: 0,
             latest: None,
             redeclared: false,
+            counted: None,
             last: 0,
             world: World::new(alloc, ground, List::new(alloc)),
         }
