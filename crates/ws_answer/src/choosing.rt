@@ -8,7 +8,7 @@ use ws_command::SaidChoice;
 use ws_fault::{Nearest, Refusal, meant};
 use ws_lines::Asked;
 use ws_question::{AskedNow, count_text, fact_text};
-use ws_report::refuse;
+use ws_report::{refuse, said_text};
 use ws_space::Space;
 use ws_written::{Answer, Choice, Fact, Question};
 
@@ -100,7 +100,7 @@ fn named(
     for fact in facts {
         let tuple = space.tuple(alloc, fact)?;
         if !candidates.contains(&tuple) {
-            return refuse_named(alloc, space, asked, &tuple);
+            return refuse_named(alloc, space, asked, fact);
         }
         chosen.push(tuple)?;
     }
@@ -111,10 +111,10 @@ fn refuse_named(
     alloc: Global,
     space: &Space,
     asked: &AskedNow,
-    tuple: &Tuple,
+    fact: &Fact,
 ) -> Result<Vec<Tuple>, Refusal> {
     let number = asked.number;
-    let text = fact_text(alloc, space, tuple)?;
+    let text = said_text(alloc, space, fact)?;
     let words = format!(in alloc; "{text} is no candidate of {number}")?;
     let hint = match nearest_of(alloc, space, asked, text.as_str())? {
         Some(near) => meant(alloc, near.as_str())?,

@@ -1,7 +1,7 @@
 //! Commands that change the workspace.
 
 use crate::patterns::{Pattern, Replacement};
-use ws_written::{Fact, NewFact, Relation, Rule, Unknown, Value};
+use ws_written::{Fact, NewFact, Relation, Rule, Value};
 
 /// The limits of an update.
 #[derive(Clone, Copy)]
@@ -63,8 +63,8 @@ pub enum Change {
     Drop(String),
     Insert(Vec<NewFact>, Bounds),
     Delete(Vec<Pattern>, Bounds),
-    /// `replace ?U.P with V`.
-    Fill(Unknown, Value, Bounds),
+    /// `replace ?U.P with V`: the first value is an unknown.
+    Fill(Value, Value, Bounds),
     /// `replace F with G`.
     Replace(Pattern, Replacement, Bounds),
     /// Answers these updates, each once, in this order; `at` is the record of `--at`.

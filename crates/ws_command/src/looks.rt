@@ -1,7 +1,7 @@
 //! Commands that only look.
 
 use crate::patterns::Pattern;
-use ws_written::{Atom, Unknown};
+use ws_written::{Atom, Value};
 
 /// One item of `show`: a whole table, or the rows that an atom matches.
 #[derive(Drop)]
@@ -30,7 +30,8 @@ pub struct Asked {
 #[derive(Drop)]
 pub enum Why {
     Fact(Pattern),
-    Unknown(Unknown),
+    /// `why ?U.P`: the value is an unknown.
+    Unknown(Value),
 }
 
 /// `export`: one relation or all, the formats that were named (`--sqlite` with its file), and the file of `--to`.

@@ -20,7 +20,7 @@ impl Item for Term {
         match cursor.value()? {
             Value::Number(number) => Ok(Term::Number(number)),
             Value::Text(text) => Ok(Term::Text(text)),
-            Value::Unknown(_) => cursor.no_term(),
+            Value::Unknown(_) | Value::Strange(_) => cursor.no_term(),
         }
     }
 }

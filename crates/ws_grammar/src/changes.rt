@@ -5,7 +5,7 @@ use crate::items::Item;
 use crate::options::Options;
 use ws_command::{Bounds, Change, Opt, Pattern, Verb};
 use ws_fault::Refusal;
-use ws_written::{Relation, STEPS, Unknown};
+use ws_written::{Relation, STEPS, Value};
 
 /// A change, and the record of `--still`.
 pub(crate) type Changed = (Change, Option<u32>);
@@ -56,7 +56,7 @@ impl<'a> Cursor<'a> {
 
     fn replaced(&mut self) -> Result<Change, Refusal> {
         if self.is_sign("?") {
-            let unknown = Unknown::read(self)?;
+            let unknown = self.value()?;
             return Ok(Change::Fill(unknown, self.with()?, USUAL));
         }
         if !self.is_name() {

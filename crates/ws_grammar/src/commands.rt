@@ -168,14 +168,14 @@ impl<'a> Cursor<'a> {
         }
     }
 
-    /// The comment of a line that must end here.
-    pub(crate) fn last_comment(&self) -> Result<String, Refusal> {
+    // The comment of a command that must end here.
+    fn last_comment(&self) -> Result<String, Refusal> {
         self.end()?;
         Ok(self.comment()?)
     }
 
-    // The comment of the line, with control characters escaped.
-    fn comment(&self) -> Result<String, AllocError> {
+    /// The comment of the line, with control characters escaped.
+    pub(crate) fn comment(&self) -> Result<String, AllocError> {
         let mut comment = Text::new(self.alloc);
         add_escaped(&mut comment, text_of(self.comment).trim_matches(is_white));
         comment.done()

@@ -6,7 +6,7 @@ use std::alloc::Global;
 use ws_fault::Refusal;
 
 /// A line over the names that stand, and the rest of it from some place on. After each token the cursor passes over blanks, a
-/// comment and a last `;`. `strange` has the digits of the first unknown whose numbers have more than 32 bits.
+/// comment and a last `;`. `is_strange` says whether it took an unknown one of whose numbers has more than 32 bits.
 #[derive(Drop)]
 pub(crate) struct Cursor<'a> {
     pub(crate) alloc: Global,
@@ -14,7 +14,7 @@ pub(crate) struct Cursor<'a> {
     pub(crate) line: &'a [u8],
     pub(crate) rest: &'a [u8],
     pub(crate) comment: &'a [u8],
-    pub(crate) strange: Option<(&'a str, &'a str)>,
+    pub(crate) is_strange: bool,
 }
 
 // Whether only `;` and blanks are left.
@@ -35,7 +35,7 @@ impl<'a> Cursor<'a> {
             line: bytes,
             rest: bytes,
             comment: b"",
-            strange: None,
+            is_strange: false,
         };
         cursor.go_on(bytes);
         cursor
@@ -133,11 +133,19 @@ impl<'a> Cursor<'a> {
         number_run(self.rest).is_some()
     }
 
-    /// Refuses the line if it does not end here, or if one of its unknowns is strange.
+    /// Refuses the line if it does not end here.
     pub(crate) fn end(&self) -> Result<(), Refusal> {
-        if !self.is_done() {
-            return self.fail("the end of the line");
+        if self.is_done() {
+            return Ok(());
         }
-        self.refuse_strange()
+        self.fail("the end of the line")
+    }
+
+    /// Refuses a line of the file if it does not end here, or if one of its unknowns is strange.
+    pub(crate) fn end_of_file_line(&self) -> Result<(), Refusal> {
+        if self.is_strange {
+            return self.fail("an unknown such as ?12.1");
+        }
+        self.end()
     }
 }

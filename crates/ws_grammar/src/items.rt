@@ -57,10 +57,10 @@ impl<'a> Cursor<'a> {
         Ok((relation, items))
     }
 
-    /// An item, and then the end of the line.
+    /// An item, and then the end of a line of the file.
     pub(crate) fn last<T: Item>(&mut self) -> Result<T, Refusal> {
         let item = T::read(self)?;
-        match self.end() {
+        match self.end_of_file_line() {
             Ok(()) => Ok(item),
             Err(refusal) => {
                 drop(item);

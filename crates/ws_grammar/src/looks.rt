@@ -4,7 +4,7 @@ use crate::cursors::Cursor;
 use crate::items::Item;
 use ws_command::{Asked, Export, Look, Opt, Paging, Pattern, Shown, Verb, Why};
 use ws_fault::Refusal;
-use ws_written::{Atom, Unknown};
+use ws_written::Atom;
 
 impl<'a> Cursor<'a> {
     /// The look that a verb and the rest of its line ask for.
@@ -78,7 +78,7 @@ impl<'a> Cursor<'a> {
 
     fn why(&mut self) -> Result<Look, Refusal> {
         let what = if self.is_sign("?") {
-            Why::Unknown(Unknown::read(self)?)
+            Why::Unknown(self.value()?)
         } else {
             Why::Fact(Pattern::read(self)?)
         };

@@ -15,13 +15,19 @@ impl<'a> Cursor<'a> {
         } else {
             self.plain_line()?
         };
-        match self.last_comment() {
+        match self.log_comment() {
             Ok(comment) => Ok(SaidLine { line, comment }),
             Err(refusal) => {
                 drop(line);
                 Err(refusal)
             }
         }
+    }
+
+    // The comment of a line of the log that must end here.
+    fn log_comment(&self) -> Result<String, Refusal> {
+        self.end_of_file_line()?;
+        Ok(self.comment()?)
     }
 
     // A line that is no update.

@@ -4,7 +4,7 @@ use crate::bytes::{Kind, name_run, run, text_of, unknown_run};
 use crate::cursors::Cursor;
 use crate::items::Item;
 use std::alloc::AllocError;
-use ws_fault::{Fault, Refusal, Status};
+use ws_fault::Refusal;
 use ws_written::{NewValue, Unknown, Value};
 
 const NEW: &str =
@@ -32,7 +32,7 @@ fn new_run(bytes: &[u8]) -> Option<(&str, &[u8])> {
     }
 }
 
-// The digits without leading zeros.
+// The digits without zeros in front.
 fn bare_digits(digits: &str) -> &str {
     let bare = digits.trim_start_matches('0');
     if bare.is_empty() { "0" } else { bare }
@@ -49,9 +49,8 @@ impl<'a> Cursor<'a> {
     /// Takes a number, a text, or an unknown by its name.
     pub(crate) fn value(&mut self) -> Result<Value, Refusal> {
         if let Some((update, place, rest)) = unknown_run(self.rest) {
-            let unknown = self.unknown(update, place);
             self.go_on(rest);
-            return Ok(Value::Unknown(unknown));
+            return self.unknown(update, place);
         }
         if self.is_number() {
             return self.number_value();
@@ -70,36 +69,15 @@ impl<'a> Cursor<'a> {
         Ok(Value::Number(number))
     }
 
-    // The unknown of this name. If one of its numbers has more than 32 bits, no unknown has the name: the line is refused at
-    // its end.
-    fn unknown(&mut self, update: &'a str, place: &'a str) -> Unknown {
+    // The unknown of this name.
+    fn unknown(&mut self, update: &str, place: &str) -> Result<Value, Refusal> {
         if let Some(unknown) = unknown_of(update, place) {
-            return unknown;
+            return Ok(Value::Unknown(unknown));
         }
-        if self.strange.is_none() {
-            self.strange = Some((update, place));
-        }
-        Unknown {
-            update: u32::MAX,
-            place: u32::MAX,
-        }
-    }
-
-    /// Refuses a line with a strange unknown, because no unknown has that name.
-    pub(crate) fn refuse_strange(&self) -> Result<(), Refusal> {
-        let Some((update, place)) = self.strange else {
-            return Ok(());
-        };
+        self.is_strange = true;
         let update = bare_digits(update);
         let place = bare_digits(place);
-        let hint = "`show` has them; a new one is written ? in an insert";
-        Err(Refusal::Fault(Fault {
-            status: Status::Refused,
-            words: format!(in self.alloc; "there is no unknown ?{update}.{place}")?,
-            place: None,
-            hint: Some(String::from_str(self.alloc, hint)?),
-            more: Vec::new(self.alloc),
-        }))
+        Ok(Value::Strange(format!(in self.alloc; "{update}.{place}")?))
     }
 
     // Refuses what stands here in the place of a value.

@@ -67,7 +67,7 @@ fn add_cell(line: &mut Text, value: &Value) {
             line.push_str("<td class=\"n\">");
             add_value(line, value);
         }
-        Value::Unknown(_) => {
+        _ => {
             line.push_str("<td class=\"u\">");
             add_value(line, value);
         }

@@ -4,7 +4,7 @@ use crate::texts::{facts_of, json_text};
 use std::alloc::{AllocError, Global};
 use std::fmt::Write;
 use ws_fault::Refusal;
-use ws_print::{Lines, Text, add_unknown};
+use ws_print::{Lines, Text, add_value as add_said};
 use ws_space::Space;
 use ws_written::{Fact, Relation, Value};
 
@@ -64,9 +64,9 @@ fn add_value(alloc: Global, line: &mut Text, value: &Value) {
     match value {
         Value::Number(number) => write!(line, "{number}"),
         Value::Text(text) => line.made(json_text(alloc, text.as_str())),
-        Value::Unknown(unknown) => {
+        unknown => {
             line.push_str("{\"unknown\":\"");
-            add_unknown(line, *unknown);
+            add_said(line, unknown);
             line.push_str("\"}")
         }
     }

@@ -154,7 +154,6 @@ fn insert(
 
 fn add_cell(line: &mut Text, is_number: bool, value: &Value) {
     match value {
-        Value::Unknown(_) => line.push_str("NULL"),
         Value::Text(text) => add_text(line, text.as_str()),
         Value::Number(number) => {
             if is_number {
@@ -162,6 +161,7 @@ fn add_cell(line: &mut Text, is_number: bool, value: &Value) {
             }
             write!(line, "'{number}'")
         }
+        _ => line.push_str("NULL"),
     }
 }
 

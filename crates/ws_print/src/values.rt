@@ -18,6 +18,10 @@ pub fn add_value(out: &mut Text, value: &Value) {
         Value::Number(number) => write!(out, "{number}"),
         Value::Text(text) => add_quoted(out, text.as_str()),
         Value::Unknown(unknown) => add_unknown(out, *unknown),
+        Value::Strange(name) => {
+            out.push('?');
+            out.push_str(name.as_str())
+        }
     }
 }
 

@@ -5,8 +5,8 @@ use def_memory::Memory;
 use std::alloc::Global;
 use ws_fault::{Fault, Status};
 use ws_json::{Items, Object};
-use ws_print::{Text, add_unknown};
-use ws_written::{Fact, Relation, Unknown, Value};
+use ws_print::{Text, add_value};
+use ws_written::{Fact, Relation, Value};
 
 /// A count as a number of an object.
 pub fn number_of(count: usize) -> i64 {
@@ -74,15 +74,15 @@ fn cells(alloc: Global, row: &Fact) -> Items {
         match value {
             Value::Number(number) => cells.number(*number),
             Value::Text(text) => cells.text(text.as_str()),
-            Value::Unknown(unknown) => cells.object(unknown_object(alloc, *unknown)),
+            unknown => cells.object(unknown_object(alloc, unknown)),
         }
     }
     cells
 }
 
-fn unknown_object(alloc: Global, unknown: Unknown) -> Object {
+fn unknown_object(alloc: Global, unknown: &Value) -> Object {
     let mut name = Text::new(alloc);
-    add_unknown(&mut name, unknown);
+    add_value(&mut name, unknown);
     let mut object = Object::new(alloc);
     object.made("unknown", name.done());
     object

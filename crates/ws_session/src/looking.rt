@@ -52,7 +52,7 @@ impl Speaker {
                 limit,
             } => Ok(ask(alloc, space, &context, asked, *unknowns, *limit)?),
             Look::Why(Why::Fact(pattern), dot) => why_fact(alloc, space, &context, pattern, *dot),
-            Look::Why(Why::Unknown(unknown), _) => why_unknown(alloc, space, &context, *unknown),
+            Look::Why(Why::Unknown(unknown), _) => why_unknown(alloc, space, &context, unknown),
             Look::Show(_, _)
             | Look::Questions { .. }
             | Look::Violations { .. }

@@ -11,6 +11,7 @@ pub fn copy_value(alloc: Global, value: &Value) -> Result<Value, Memory> {
         Value::Number(number) => Value::Number(*number),
         Value::Text(text) => Value::Text(String::from_str(alloc, text.as_str())?),
         Value::Unknown(unknown) => Value::Unknown(*unknown),
+        Value::Strange(name) => Value::Strange(String::from_str(alloc, name.as_str())?),
     })
 }
 

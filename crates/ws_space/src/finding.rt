@@ -40,6 +40,7 @@ impl Space {
             Said::Number(number) => Some(Value::Int(*number)),
             Said::Text(text) => Some(Value::Word(bytes_of(alloc, text.as_str())?)),
             Said::Unknown(unknown) => self.within_unknown(*unknown),
+            Said::Strange(_) => None,
         })
     }
 

@@ -6,6 +6,13 @@ use base_types::{Memory, Null, Tuple, TupleList, Value, ValueList};
 use std::alloc::Global;
 use ws_written::{Fact, Unknown, Value as Said};
 
+// The name of no unknown: places count from 1.
+const NOBODY: Null = Null {
+    update: 0,
+    attempt: 0,
+    place: 0,
+};
+
 /// The unknown that has this name in the state.
 pub fn unknown_of(name: Null) -> Unknown {
     Unknown {
@@ -94,6 +101,7 @@ pub(crate) fn named_value(alloc: Global, value: &Said) -> Result<Value, Memory> 
         Said::Number(number) => Value::Int(*number),
         Said::Text(text) => Value::Word(bytes_of(alloc, text.as_str())?),
         Said::Unknown(unknown) => Value::Null(null_of(*unknown)),
+        Said::Strange(_) => Value::Null(NOBODY),
     })
 }
 

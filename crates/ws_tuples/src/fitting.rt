@@ -1,6 +1,5 @@
 //! The tuples that patterns stand for.
 
-use crate::names::check_value;
 use base_types::Tuple;
 use def_memory::Memory;
 use std::alloc::Global;
@@ -29,7 +28,7 @@ pub(crate) fn fitting_facts(
 fn check_pattern(alloc: Global, space: &Space, pattern: &Pattern) -> Result<(), Refusal> {
     for value in pattern.values.iter() {
         if let Some(known) = value {
-            check_value(alloc, space, known)?;
+            space.check(alloc, known)?;
         }
     }
     Ok(())

@@ -4,28 +4,12 @@ use def_memory::Memory;
 use std::alloc::Global;
 use ws_fault::Refusal;
 use ws_space::Space;
-use ws_written::{Fact, NewFact, NewValue, Unknown, Value};
-
-/// Refuses an unknown that is not there.
-pub(crate) fn check_unknown(alloc: Global, space: &Space, unknown: Unknown) -> Result<(), Refusal> {
-    if space.within_unknown(unknown).is_none() {
-        return Err(Refusal::Fault(space.lost(alloc, unknown)?));
-    }
-    Ok(())
-}
-
-/// Refuses a value that is an unknown which is not there.
-pub(crate) fn check_value(alloc: Global, space: &Space, value: &Value) -> Result<(), Refusal> {
-    match value {
-        Value::Unknown(unknown) => check_unknown(alloc, space, *unknown),
-        _ => Ok(()),
-    }
-}
+use ws_written::{Fact, NewFact, NewValue, Value};
 
 /// Refuses a tuple with an unknown that is not there.
 pub(crate) fn check_fact(alloc: Global, space: &Space, fact: &Fact) -> Result<(), Refusal> {
     for value in fact.values.iter() {
-        check_value(alloc, space, value)?;
+        space.check(alloc, value)?;
     }
     Ok(())
 }
@@ -34,7 +18,7 @@ pub(crate) fn check_fact(alloc: Global, space: &Space, fact: &Fact) -> Result<()
 pub(crate) fn check_new_fact(alloc: Global, space: &Space, fact: &NewFact) -> Result<(), Refusal> {
     for value in fact.values.iter() {
         if let NewValue::Known(known) = value {
-            check_value(alloc, space, known)?;
+            space.check(alloc, known)?;
         }
     }
     Ok(())

@@ -2,9 +2,7 @@
 
 use crate::deleting::near_lines;
 use crate::fitting::fitting_facts;
-use crate::names::{
-    check_fact, check_new_fact, check_unknown, check_value, is_there, same_fact, same_value,
-};
+use crate::names::{check_fact, check_new_fact, is_there, same_fact, same_value};
 use crate::single::single;
 use def_memory::Memory;
 use std::alloc::Global;
@@ -31,24 +29,26 @@ fn nothing_to_do(alloc: Global, space: &Space, update: &Update) -> Result<Done, 
 pub fn fill(
     alloc: Global,
     space: &mut Space,
-    unknown: Unknown,
+    unknown: &Value,
     value: Value,
     bounds: &Bounds,
 ) -> Result<Done, Refusal> {
-    match check_both(alloc, space, unknown, &value) {
-        Ok(()) => changed(alloc, space, Update::Fill(unknown, value), bounds),
+    match filled(alloc, space, unknown, &value) {
+        Ok(unknown) => changed(alloc, space, Update::Fill(unknown, value), bounds),
         Err(refusal) => Err(refusal),
     }
 }
 
-fn check_both(
+// The unknown that is to be replaced by the value.
+fn filled(
     alloc: Global,
     space: &Space,
-    unknown: Unknown,
+    unknown: &Value,
     value: &Value,
-) -> Result<(), Refusal> {
-    check_unknown(alloc, space, unknown)?;
-    check_value(alloc, space, value)
+) -> Result<Unknown, Refusal> {
+    let unknown = space.unknown(alloc, unknown)?;
+    space.check(alloc, value)?;
+    Ok(unknown)
 }
 
 // Takes the update, unless it would replace something by itself.

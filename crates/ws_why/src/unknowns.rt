@@ -1,6 +1,6 @@
 //! `why ?U.P`: what drew an unknown, and which tuples have it.
 
-use base_types::{Memory, Tuple, Value};
+use base_types::{Memory, Tuple};
 use std::alloc::Global;
 use ws_fault::{Refusal, Status as Code};
 use ws_json::Object;
@@ -11,33 +11,34 @@ use ws_question::{fact_text, inner_text};
 use ws_reply::{Context, Reply, object_of, seen_object, seen_text, text_items};
 use ws_space::{Space, variable_said};
 use ws_state::{Held, Status};
-use ws_written::Unknown;
+use ws_written::{Unknown, Value as Said};
 
 /// What drew the unknown, and the tuples that have it. It is refused if the unknown is not there.
 pub fn why_unknown(
     alloc: Global,
     space: &Space,
     context: &Context<'_>,
-    unknown: Unknown,
+    unknown: &Said,
 ) -> Result<Reply, Refusal> {
-    let Some(value) = space.within_unknown(unknown) else {
-        return Err(Refusal::Fault(space.lost(alloc, unknown)?));
-    };
+    let unknown = space.unknown(alloc, unknown)?;
     let mut name = Text::new(alloc);
     add_unknown(&mut name, unknown);
     let name = name.done()?;
-    let texts = texts_with(alloc, space, &value)?;
+    let texts = texts_with(alloc, space, unknown)?;
     let words = words_of(alloc, space, name.as_str(), unknown)?;
     Ok(reply(alloc, context, name.as_str(), words, texts.as_slice())?)
 }
 
-// The tuples that have the value, in order, in the form that commands take.
-fn texts_with(alloc: Global, space: &Space, value: &Value) -> Result<Vec<String>, Memory> {
+// The tuples that have the unknown, in order, in the form that commands take.
+fn texts_with(alloc: Global, space: &Space, unknown: Unknown) -> Result<Vec<String>, Memory> {
+    let Some(value) = space.within_unknown(unknown) else {
+        return Ok(Vec::new(alloc));
+    };
     let mut texts = Lines::new(alloc);
     for number in 0..space.relations.len() {
         let rows = space.rows(alloc, u32::try_from(number).unwrap_or(u32::MAX))?;
         for tuple in rows.iter() {
-            if tuple.values.as_slice().contains(value) {
+            if tuple.values.as_slice().contains(&value) {
                 texts.made(inner_text(alloc, space, tuple));
             }
         }

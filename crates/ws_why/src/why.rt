@@ -12,7 +12,7 @@ use ws_print::{Lines, Text, add_pattern};
 use ws_question::{count_text, fact_text, inner_text};
 use ws_reply::{Context, Reply, lines_text, number_of, object_of, refused, seen_object, seen_text};
 use ws_space::{Space, plain_fact};
-use ws_written::{Fact, Value};
+use ws_written::Fact;
 
 // The greatest number of fitting tuples that are listed.
 const TOLD: usize = 3;
@@ -90,10 +90,8 @@ fn first_texts(alloc: Global, space: &Space, tuples: &[Tuple]) -> Result<Vec<Str
 // Refuses a pattern with an unknown that is not there.
 fn refuse_lost(alloc: Global, space: &Space, pattern: &Pattern) -> Result<(), Refusal> {
     for value in pattern.values.iter() {
-        if let Some(Value::Unknown(unknown)) = value {
-            if space.within_unknown(*unknown).is_none() {
-                return Err(Refusal::Fault(space.lost(alloc, *unknown)?));
-            }
+        if let Some(known) = value {
+            space.check(alloc, known)?;
         }
     }
     Ok(())

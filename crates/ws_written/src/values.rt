@@ -13,6 +13,8 @@ pub enum Value {
     Number(i64),
     Text(String),
     Unknown(Unknown),
+    /// The name `U.P` of an unknown, one of whose numbers has more than 32 bits: it is not there, whatever stands.
+    Strange(String),
 }
 
 /// A value of a tuple that is to be inserted: a known value, or a new unknown.
