@@ -2,7 +2,7 @@
 
 use crate::choosing::{answer_to, choose};
 use crate::giving::{Given, asking, give};
-use crate::records::answered_numbers;
+use crate::records::is_answered;
 use crate::same::check_since;
 use std::alloc::{AllocError, Global};
 use ws_command::SaidChoice;
@@ -10,7 +10,7 @@ use ws_fault::{Refusal, Status as Comes};
 use ws_print::{Text, add_choice};
 use ws_question::{AskedNow, Shown, asked_now, question_lines, reason_words, status_of};
 use ws_reply::Context;
-use ws_report::{CANDIDATES, Done, refuse, refuse_with};
+use ws_report::{CANDIDATES, Done, refuse, refuse_made, refuse_with};
 use ws_run::Reason;
 use ws_space::Space;
 use ws_state::Status;
@@ -63,12 +63,25 @@ fn check_waits(alloc: Global, space: &Space, number: u32) -> Result<(), Refusal>
         Status::Undone => "undone",
         Status::GivenUp => "given up",
     };
-    let words = format!(in alloc; "update {number} waits for no answer: it is {stands}")?;
-    if stands == "done" && answered_numbers(alloc, space)?.contains(&number) {
-        let hint = format!(in alloc; "undo {number} --answers makes it ask again")?;
-        return refuse(alloc, words.as_str(), hint.as_str());
+    let words = format!(in alloc; "update {number} waits for no answer: it is {stands}");
+    refuse_made(alloc, words, silent_hint(alloc, space, number, stands))
+}
+
+// How to make the update ask again; empty if it took no answers.
+fn silent_hint(
+    alloc: Global,
+    space: &Space,
+    number: u32,
+    stands: &str,
+) -> Result<String, AllocError> {
+    if stands != "done" {
+        return Ok(String::new(alloc));
     }
-    refuse(alloc, words.as_str(), "")
+    match is_answered(alloc, space, number) {
+        Ok(true) => format!(in alloc; "undo {number} --answers makes it ask again"),
+        Ok(false) => Ok(String::new(alloc)),
+        Err(_) => Err(AllocError),
+    }
 }
 
 // What the answer leads to, given what the update asks now.

@@ -8,7 +8,7 @@ use ws_command::SaidChoice;
 use ws_fault::{Nearest, Refusal, meant};
 use ws_lines::Asked;
 use ws_question::{AskedNow, count_text, fact_text};
-use ws_report::{refuse, said_text};
+use ws_report::{refuse, refuse_made, said_text};
 use ws_space::Space;
 use ws_written::{Answer, Choice, Fact, Question};
 
@@ -83,9 +83,8 @@ fn numbered(alloc: Global, asked: &AskedNow, numbers: &[u32]) -> Result<Vec<Tupl
 fn refuse_number(alloc: Global, asked: &AskedNow, number: u32) -> Result<Vec<Tuple>, Refusal> {
     let update = asked.number;
     let count = count_text(alloc, asked.count(), "candidate")?;
-    let words = format!(in alloc; "update {update} has {count}, not {number}")?;
-    let hint = format!(in alloc; "questions {update}")?;
-    refuse(alloc, words.as_str(), hint.as_str())
+    let words = format!(in alloc; "update {update} has {count}, not {number}");
+    refuse_made(alloc, words, format!(in alloc; "questions {update}"))
 }
 
 // The candidates that are these tuples.

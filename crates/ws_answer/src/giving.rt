@@ -7,7 +7,7 @@ use ws_fault::{Refusal, Status};
 use ws_lines::Deed;
 use ws_print::Lines;
 use ws_question::{AskedNow, asked_now, count_text, question_next, reason_words};
-use ws_report::{Done, Report, recorded, refuse, spent_fault};
+use ws_report::{Done, Report, recorded, refuse_made, spent_fault};
 use ws_run::Reason;
 use ws_space::Space;
 use ws_state::{Mark, Told};
@@ -103,9 +103,8 @@ pub(crate) fn asking(
 // The refusal of an update that is stopped by something other than a question.
 fn cannot(alloc: Global, space: &Space, number: u32, reason: &Reason) -> Result<Report, Refusal> {
     let reason = reason_words(alloc, space, Some(reason))?;
-    let words = format!(in alloc; "update {number} cannot go on: {reason}")?;
-    let hint = format!(in alloc; "undo {number}")?;
-    refuse(alloc, words.as_str(), hint.as_str())
+    let words = format!(in alloc; "update {number} cannot go on: {reason}");
+    refuse_made(alloc, words, format!(in alloc; "undo {number}"))
 }
 
 // For a repair: the words for the violations of its mapping that are left.

@@ -65,6 +65,12 @@ pub(crate) fn answered_numbers(alloc: Global, space: &Space) -> Result<BTreeSet<
     Ok(numbers)
 }
 
+/// Whether the update stands or waits with answers.
+pub(crate) fn is_answered(alloc: Global, space: &Space, number: u32) -> Result<bool, Memory> {
+    let numbers = answered_numbers(alloc, space)?;
+    Ok(numbers.contains(&number))
+}
+
 /// The budget of the update; 0 if there is no update with this number.
 pub(crate) fn steps_of(space: &Space, number: u32) -> u32 {
     match space.state.update(number) {

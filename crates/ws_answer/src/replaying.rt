@@ -37,17 +37,44 @@ fn replayed(
     line: &Line,
     asked: ReplayWords,
 ) -> Result<Report, Refusal> {
-    let mut before = Vec::new(alloc);
-    before.extend_from_slice(space.state.in_force())?;
+    match reported(alloc, space, line, asked.numbers.as_slice()) {
+        Ok(report) => Ok(with_words(report, asked)),
+        Err(refusal) => {
+            drop(asked);
+            Err(refusal)
+        }
+    }
+}
+
+// Does the line, and reports it. The report has commands that may follow only if one of the updates waits.
+fn reported(
+    alloc: Global,
+    space: &mut Space,
+    line: &Line,
+    numbers: &[u32],
+) -> Result<Report, Refusal> {
+    let before = in_force(alloc, space)?;
+    let replayed = taken(alloc, space, line)?;
+    let again = again_of(alloc, space, &replayed, numbers)?;
+    let next = questions_of(alloc, again.as_slice())?;
+    let mut report = report_of(alloc, space, line, before.as_slice(), &replayed)?;
+    report.again = again;
+    report.next = next;
+    Ok(report)
+}
+
+// The mappings in force.
+fn in_force(alloc: Global, space: &Space) -> Result<Vec<u16>, AllocError> {
+    let mut numbers = Vec::new(alloc);
+    numbers.extend_from_slice(space.state.in_force())?;
+    Ok(numbers)
+}
+
+// Takes the line, and returns what the replay changed.
+fn taken(alloc: Global, space: &mut Space, line: &Line) -> Result<Replayed, Refusal> {
     let Told { replayed, .. } = space.take(alloc, line)?;
     match replayed {
-        Some(replayed) => {
-            let again = again_of(alloc, space, &replayed, asked.numbers.as_slice())?;
-            let questions = questions_of(alloc, again.as_slice())?;
-            let mut report = report_of(alloc, space, line, before.as_slice(), &replayed)?;
-            report.again = again;
-            Ok(with_words(report, asked, questions))
-        }
+        Some(replayed) => Ok(replayed),
         None => Err(Refusal::Memory),
     }
 }
@@ -68,16 +95,15 @@ fn report_of(
     Ok(report)
 }
 
-// Adds the hints and the commands that may follow to the report; `questions` are those if an update waits.
-fn with_words(report: Report, asked: ReplayWords, questions: Vec<String>) -> Report {
+// Adds the hints to the report, and the commands that may follow if nothing waits.
+fn with_words(report: Report, asked: ReplayWords) -> Report {
     let ReplayWords { notes, next, .. } = asked;
     let mut report = report;
     report.notes = notes;
-    if questions.is_empty() {
+    if report.next.is_empty() {
         report.next = next;
     } else {
         report.status = Comes::Waits;
-        report.next = questions;
     }
     report
 }

@@ -3,7 +3,7 @@
 use std::alloc::{AllocError, Global};
 use ws_fault::Refusal;
 use ws_question::{AskedNow, question_lines};
-use ws_report::{CANDIDATES, refuse, refuse_with};
+use ws_report::{CANDIDATES, refuse_made, refuse_with};
 use ws_run::{Question, Reason};
 use ws_space::Space;
 
@@ -30,15 +30,13 @@ pub(crate) fn check_since(
 }
 
 fn refuse_later(alloc: Global, last: u32, at: u32) -> Result<(), Refusal> {
-    let words = format!(in alloc; "the log has no record {at}")?;
-    let hint = format!(in alloc; "it is at {last}")?;
-    refuse(alloc, words.as_str(), hint.as_str())
+    let words = format!(in alloc; "the log has no record {at}");
+    refuse_made(alloc, words, format!(in alloc; "it is at {last}"))
 }
 
 fn refuse_folded(alloc: Global, number: u32, at: u32) -> Result<(), Refusal> {
-    let words = format!(in alloc; "record {at} was folded")?;
-    let hint = look_again(alloc, number)?;
-    refuse(alloc, words.as_str(), hint.as_str())
+    let words = format!(in alloc; "record {at} was folded");
+    refuse_made(alloc, words, look_again(alloc, number))
 }
 
 fn refuse_other(alloc: Global, space: &Space, asked: &AskedNow, at: u32) -> Result<(), Refusal> {

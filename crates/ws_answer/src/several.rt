@@ -197,21 +197,30 @@ impl Answers {
     ) -> Result<Report, Memory> {
         let mut waiting = among(alloc, space, take)?;
         waiting.sort_unstable();
+        let mut report = report_of(alloc, space, text, mark, !waiting.is_empty())?;
+        report.also = also_of(alloc, self.done.as_slice(), waiting.as_slice())?;
+        report.next = next_of(alloc, waiting.as_slice())?;
         let mut numbers = Vec::new(alloc);
         numbers.extend_from_slice(self.done.as_slice())?;
-        let also = also_of(alloc, self.done.as_slice(), waiting.as_slice())?;
-        let next = next_of(alloc, waiting.as_slice())?;
-        let waits = !waiting.is_empty();
-        let effect = space.state.effect_since(alloc, mark)?;
-        let status = if waits { Status::Waits } else { Status::Done };
-        let did = if waits { "waits" } else { "done" };
-        let mut report = Report::with_effect(alloc, status, did, text, effect);
-        report.telling = Telling::Brief;
-        report.also = also;
-        report.next = next;
         report.counted = Some(Counted { numbers, waiting });
         Ok(report)
     }
+}
+
+// The report of what the answers did.
+fn report_of(
+    alloc: Global,
+    space: &Space,
+    text: String,
+    mark: Mark,
+    waits: bool,
+) -> Result<Report, Memory> {
+    let effect = space.state.effect_since(alloc, mark)?;
+    let status = if waits { Status::Waits } else { Status::Done };
+    let did = if waits { "waits" } else { "done" };
+    let mut report = Report::with_effect(alloc, status, did, text, effect);
+    report.telling = Telling::Brief;
+    Ok(report)
 }
 
 // Takes the line of an update, and returns the reason if it waits. It is refused if its steps do not suffice.

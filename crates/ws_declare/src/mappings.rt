@@ -5,7 +5,7 @@ use crate::dropping::is_in_force;
 use crate::speaking::speaker_of;
 use std::alloc::Global;
 use ws_fault::Refusal;
-use ws_report::refuse;
+use ws_report::{refuse, refuse_made};
 use ws_space::Space;
 use ws_written::{Atom, Rule, Term};
 
@@ -103,17 +103,17 @@ fn check_name(alloc: Global, space: &Space, name: &str) -> Result<(), Refusal> {
         return Ok(());
     };
     if space.state.is_gone(mapping) {
-        let words = format!(in alloc; "there was a mapping {name}; its name is free after `fold`")?;
-        return refuse(alloc, words.as_str(), "");
+        let words = format!(in alloc; "there was a mapping {name}; its name is free after `fold`");
+        return refuse_made(alloc, words, Ok(String::new(alloc)));
     }
     if is_in_force(space, name) {
-        let words = format!(in alloc; "mapping {name} is in force")?;
-        let hint = format!(in alloc; "drop {name} takes it away")?;
-        return refuse(alloc, words.as_str(), hint.as_str());
+        let words = format!(in alloc; "mapping {name} is in force");
+        return refuse_made(alloc, words, format!(in alloc; "drop {name} takes it away"));
     }
     if let Some(number) = speaker_of(space, mapping) {
-        let words = format!(in alloc; "update {number} speaks of mapping {name}")?;
-        return refuse(alloc, words.as_str(), "take another name, or fold first");
+        let words = format!(in alloc; "update {number} speaks of mapping {name}");
+        let hint = String::from_str(alloc, "take another name, or fold first");
+        return refuse_made(alloc, words, hint);
     }
     Ok(())
 }

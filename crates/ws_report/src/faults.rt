@@ -34,6 +34,18 @@ pub fn refuse<T: Drop>(alloc: Global, words: &str, hint: &str) -> Result<T, Refu
     Err(Refusal::Fault(refused(alloc, words, hint)?))
 }
 
+/// Refuses a change that does not fit what is there, with words and a hint that were made for it. An empty hint means that there
+/// is none.
+pub fn refuse_made<T: Drop>(
+    alloc: Global,
+    words: Result<String, AllocError>,
+    hint: Result<String, AllocError>,
+) -> Result<T, Refusal> {
+    let words = words?;
+    let hint = hint?;
+    refuse(alloc, words.as_str(), hint.as_str())
+}
+
 /// Refuses a change that does not fit what is there, with further faults.
 pub fn refuse_with<T: Drop>(
     alloc: Global,

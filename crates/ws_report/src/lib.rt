@@ -14,7 +14,7 @@ mod spending;
 mod words;
 
 pub use crate::done::{Done, add_line, lines_of, recorded};
-pub use crate::faults::{refuse, refuse_with, spent};
+pub use crate::faults::{refuse, refuse_made, refuse_with, spent};
 pub use crate::notes::Note;
 pub use crate::replies::CANDIDATES;
 pub use crate::reports::{AgainTold, Counted, Report, Telling, no_effect};

@@ -34,7 +34,6 @@ pub struct AgainTold {
 
 /// The report of a change: what it did, its line as it was done, and the number of its update; what came, went and was filled;
 /// further lines, the question that it asks, the other updates that it changed, hints, and the commands that may follow.
-#[derive(Drop)]
 pub struct Report {
     pub status: Status,
     pub did: &'static str,
@@ -48,6 +47,28 @@ pub struct Report {
     pub notes: Vec<Note>,
     pub next: Vec<String>,
     pub counted: Option<Counted>,
+}
+
+impl Drop for Report {
+    fn drop(self) {
+        let Report {
+            status: _,
+            did: _,
+            line: _,
+            number: _,
+            effect,
+            telling: _,
+            also: _,
+            question,
+            again: _,
+            notes: _,
+            next: _,
+            counted,
+        } = self;
+        drop(effect);
+        drop(question);
+        drop(counted);
+    }
 }
 
 impl Report {

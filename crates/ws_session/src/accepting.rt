@@ -95,13 +95,26 @@ fn add_further(
     further: Further<'_>,
 ) -> Result<(), Memory> {
     for (place, number) in further.updates.iter().enumerate() {
-        let line = line_of(alloc, space, *number)?;
-        text.push('\n');
-        add_line(text, space.relations.as_slice(), &line);
-        if place == 0 && !further.comment.is_empty() {
-            text.push_str("  # ");
-            text.push_str(further.comment);
-        }
+        let comment = if place == 0 { further.comment } else { "" };
+        add_update(alloc, text, space, *number, comment)?;
+    }
+    Ok(())
+}
+
+// Adds the line of an update, with the comment unless it is empty.
+fn add_update(
+    alloc: Global,
+    text: &mut Text,
+    space: &Space,
+    number: u32,
+    comment: &str,
+) -> Result<(), Memory> {
+    let line = line_of(alloc, space, number)?;
+    text.push('\n');
+    add_line(text, space.relations.as_slice(), &line);
+    if !comment.is_empty() {
+        text.push_str("  # ");
+        text.push_str(comment);
     }
     Ok(())
 }

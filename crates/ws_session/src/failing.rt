@@ -140,21 +140,31 @@ pub fn fault_reply(
 
 // The fault with each control character in its words as an escape.
 fn escaped_fault(alloc: Global, fault: &Fault) -> Result<Fault, AllocError> {
-    let mut more = Vec::new(alloc);
-    for words in fault.more.iter() {
-        more.push(escaped(alloc, words.as_str())?)?;
-    }
-    let hint = match &fault.hint {
-        Some(hint) => Some(escaped(alloc, hint.as_str())?),
-        None => None,
-    };
+    let words = escaped(alloc, fault.words.as_str())?;
+    let hint = escaped_hint(alloc, fault)?;
+    let more = all_escaped(alloc, fault.more.as_slice())?;
     Ok(Fault {
         status: fault.status,
-        words: escaped(alloc, fault.words.as_str())?,
+        words,
         place: fault.place,
         hint,
         more,
     })
+}
+
+fn escaped_hint(alloc: Global, fault: &Fault) -> Result<Option<String>, AllocError> {
+    match &fault.hint {
+        Some(hint) => Ok(Some(escaped(alloc, hint.as_str())?)),
+        None => Ok(None),
+    }
+}
+
+fn all_escaped(alloc: Global, texts: &[String]) -> Result<Vec<String>, AllocError> {
+    let mut all = Lines::new(alloc);
+    for text in texts {
+        all.made(escaped(alloc, text.as_str()));
+    }
+    all.done()
 }
 
 fn escaped(alloc: Global, words: &str) -> Result<String, AllocError> {

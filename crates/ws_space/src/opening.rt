@@ -8,7 +8,7 @@ use base_types::Memory;
 use std::alloc::{AllocError, AllocFailed, Global};
 use ws_grammar::{read_head, read_line, read_stamp};
 use ws_state::State;
-use ws_written::{Head, Record, Rule, SaidLine, Stamp};
+use ws_written::{Head, Line, Record, Rule, SaidLine, Stamp};
 
 /// Why texts cannot be opened: want of memory, or the text at this place is neither head nor record.
 #[derive(Clone, Copy, Debug, PartialEq, Eq)]
@@ -135,16 +135,36 @@ impl Space {
         line: &str,
         lines: &mut Vec<SaidLine>,
     ) -> Result<bool, Memory> {
-        let Some(said) = read_line(alloc, self.relations.as_slice(), line)? else {
-            return Ok(false);
-        };
-        if self.try_take(alloc, &said.line)?.is_none() {
-            return Ok(false);
+        match read_line(alloc, self.relations.as_slice(), line)? {
+            Some(said) => self.replay_said(alloc, said, lines),
+            None => Ok(false),
         }
-        if self.keeps_lines {
-            lines.push(said)?;
+    }
+
+    fn replay_said(
+        &mut self,
+        alloc: Global,
+        said: SaidLine,
+        lines: &mut Vec<SaidLine>,
+    ) -> Result<bool, Memory> {
+        match self.takes(alloc, &said.line) {
+            Ok(true) if self.keeps_lines => {
+                lines.push(said)?;
+                Ok(true)
+            }
+            taken => {
+                drop(said);
+                taken
+            }
         }
-        Ok(true)
+    }
+
+    // Does what a line says. Returns whether it can be taken.
+    fn takes(&mut self, alloc: Global, line: &Line) -> Result<bool, Memory> {
+        let told = self.try_take(alloc, line)?;
+        let is_taken = told.is_some();
+        drop(told);
+        Ok(is_taken)
     }
 }
 

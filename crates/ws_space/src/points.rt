@@ -10,11 +10,33 @@ use ws_state::Point as StatePoint;
 use ws_written::{Relation, Rule};
 
 /// What a workspace goes back to after lines that are not recorded.
-#[derive(Drop)]
 pub struct Point {
     state: StatePoint,
     relations: Vec<Relation>,
     rules: Vec<Rule>,
+}
+
+impl Drop for Point {
+    fn drop(self) {
+        let Point {
+            state,
+            relations: _,
+            rules: _,
+        } = self;
+        drop(state);
+    }
+}
+
+impl Point {
+    // What it goes back to: the state, the relations and the mappings.
+    fn parts(self) -> (StatePoint, Vec<Relation>, Vec<Rule>) {
+        let Point {
+            state,
+            relations,
+            rules,
+        } = self;
+        (state, relations, rules)
+    }
 }
 
 impl Space {
@@ -31,11 +53,7 @@ impl Space {
 
     /// Takes back the lines taken since the point. After a refusal, the space is of no use.
     pub fn back_to(&mut self, alloc: Global, point: Point) -> Result<(), Memory> {
-        let Point {
-            state,
-            relations,
-            rules,
-        } = point;
+        let (state, relations, rules) = point.parts();
         self.relations = relations;
         self.rules = rules;
         self.changed = Changed::new(alloc);

@@ -20,7 +20,6 @@ pub struct Recorded {
 /// In a mapping, each `_` is a variable of its own, with the name that it is printed with. `created` is the stamp of the head,
 /// `first` the number of records before it, and `folded` the last update's number in it. If the space was opened without
 /// `keeps_lines`, the records that were read have no lines.
-#[derive(Drop)]
 pub struct Space {
     pub relations: Vec<Relation>,
     pub rules: Vec<Rule>,
@@ -35,6 +34,23 @@ pub struct Space {
     pub(crate) changed: Changed,
     // Whether to keep the lines of records that are read.
     pub(crate) keeps_lines: bool,
+}
+
+impl Drop for Space {
+    fn drop(self) {
+        let Space {
+            relations: _,
+            rules: _,
+            state: _,
+            records: _,
+            created: _,
+            first: _,
+            folded: _,
+            stamp: _,
+            changed: _,
+            keeps_lines: _,
+        } = self;
+    }
 }
 
 impl Space {

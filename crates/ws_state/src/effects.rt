@@ -48,12 +48,26 @@ impl State {
         let mut touched = Touched::new(alloc);
         touched.made(after(ground.trail.as_slice(), mark.trail))?;
         let before = were_there(alloc, &touched)?;
-        let targets = followed_all(alloc, standings, &before)?;
         let by = ways_of(alloc, ground, standings)?;
-        let came = came_of(alloc, ground, &touched, &targets, &by)?;
-        let went = went_of(alloc, ground, &before, &targets, &by)?;
-        let filled = filled_of(alloc, ground, mark, standings, &before)?;
-        let merged = merged_of(alloc, ground, &touched, &targets)?;
+        self.effect_of(alloc, mark, &touched, &before, &by)
+    }
+
+    // What the lines since the mark did: they touched these tuples, of which some were there before; `by` has the mappings.
+    fn effect_of(
+        &self,
+        alloc: Global,
+        mark: Mark,
+        touched: &Touched,
+        before: &TupleList,
+        by: &BTreeMap<Tuple, Source>,
+    ) -> Result<Effect, Memory> {
+        let ground = &self.world.ground;
+        let standings = after(self.world.order.as_slice(), mark.order);
+        let targets = followed_all(alloc, standings, before)?;
+        let merged = merged_of(alloc, ground, touched, &targets)?;
+        let came = came_of(alloc, ground, touched, &targets, by)?;
+        let went = went_of(alloc, ground, before, &targets, by)?;
+        let filled = filled_of(alloc, ground, mark, standings, before)?;
         Ok(Effect {
             came,
             went,
@@ -187,22 +201,42 @@ fn filled_of(
     standings: &[Standing],
     before: &TupleList,
 ) -> Result<FilledList, Memory> {
-    let mut filled: BTreeMap<Null, Filled> = BTreeMap::new(alloc);
     let holders = holders_of(alloc, mark, before)?;
+    let mut filled = BTreeMap::new(alloc);
     for (null, tuples) in &holders {
         let now = followed_value(alloc, standings, &Value::Null(*null))?;
-        if now != Value::Null(*null) {
-            let name = ground.names.name_of(*null);
-            let one = Filled {
-                name,
-                value: ground.names.value(alloc, &now)?,
-                tuples: *tuples,
-            };
-            if filled.insert(name, one).is_err() {
-                return Err(Memory);
-            }
-        }
+        add_filled(alloc, ground, &mut filled, *null, &now, *tuples)?;
     }
+    by_names(alloc, filled)
+}
+
+// Adds an unknown with its value now and the number of tuples that hold it, unless it has no other value.
+fn add_filled(
+    alloc: Global,
+    ground: &Ground,
+    filled: &mut BTreeMap<Null, Filled>,
+    null: Null,
+    now: &Value,
+    tuples: u32,
+) -> Result<(), Memory> {
+    if *now == Value::Null(null) {
+        return Ok(());
+    }
+    let name = ground.names.name_of(null);
+    let value = ground.names.value(alloc, now)?;
+    let one = Filled {
+        name,
+        value,
+        tuples,
+    };
+    match filled.insert(name, one) {
+        Ok(_) => Ok(()),
+        Err(_) => Err(Memory),
+    }
+}
+
+// The filled unknowns in the order of their names.
+fn by_names(alloc: Global, filled: BTreeMap<Null, Filled>) -> Result<FilledList, Memory> {
     let mut all = FilledList::new(alloc);
     for (_, one) in filled {
         all.push(one)?;

@@ -35,8 +35,22 @@ impl<T: Drop> From<(T, Memory)> for OpenFault {
 impl State {
     /// The state that the head stands for.
     pub fn of(alloc: Global, head: Head) -> Result<State, OpenFault> {
-        let world = world_of(alloc, &head)?;
-        let first_in_force = world.in_force.copy(alloc)?;
+        match begun(alloc, &head) {
+            Ok((world, first_in_force)) => State::over(alloc, head, world, first_in_force),
+            Err(fault) => {
+                drop(head);
+                Err(fault)
+            }
+        }
+    }
+
+    // The state of the head, over what stands according to it.
+    fn over(
+        alloc: Global,
+        head: Head,
+        world: World,
+        first_in_force: List<u16>,
+    ) -> Result<State, OpenFault> {
         let mut state = State {
             tables: head.tables,
             mappings: head.mappings,
@@ -52,8 +66,13 @@ impl State {
             last: head.last,
             world,
         };
-        state.hold(alloc, head.waits)?;
-        Ok(state)
+        match state.hold(alloc, head.waits) {
+            Ok(()) => Ok(state),
+            Err(fault) => {
+                drop(state);
+                Err(fault)
+            }
+        }
     }
 
     // Holds the updates that wait, as waiting.
@@ -82,8 +101,22 @@ impl State {
     }
 
     fn hold_one(&mut self, alloc: Global, waiting: HeadWaiting) -> Result<(), Memory> {
-        let place = self.held.len();
-        self.world.wait(place, waiting.answers.copy(alloc)?)?;
+        match self.let_wait(alloc, &waiting) {
+            Ok(()) => self.keep_held(waiting),
+            Err(memory) => {
+                drop(waiting);
+                Err(memory)
+            }
+        }
+    }
+
+    // The update that is held next waits.
+    fn let_wait(&mut self, alloc: Global, waiting: &HeadWaiting) -> Result<(), Memory> {
+        let answers = waiting.answers.copy(alloc)?;
+        self.world.wait(self.held.len(), answers)
+    }
+
+    fn keep_held(&mut self, waiting: HeadWaiting) -> Result<(), Memory> {
         let HeadWaiting {
             update,
             places,
@@ -97,6 +130,13 @@ impl State {
         })?;
         Ok(())
     }
+}
+
+// What stands according to the head, and the mappings that are in force then.
+fn begun(alloc: Global, head: &Head) -> Result<(World, List<u16>), OpenFault> {
+    let in_force = first_numbers(alloc, head.in_force)?;
+    let world = world_of(alloc, head)?;
+    Ok((world, in_force))
 }
 
 // What stands according to the head, without the updates that wait.

@@ -62,7 +62,6 @@ pub struct Told {
 /// The state that a log stands for. `latest` keeps what stood before the latest update, until another line runs. `redeclared`
 /// says whether a mapping was declared once more since the last replay, so that a replay may give something else than what
 /// stands. `counted` keeps which lines counted before the first undo, redo or forgetting since the latest point.
-#[derive(Drop)]
 pub struct State {
     pub(crate) tables: TableList,
     pub(crate) mappings: MappingList,
@@ -77,6 +76,28 @@ pub struct State {
     pub(crate) counted: Option<Counted>,
     pub(crate) last: u32,
     pub(crate) world: World,
+}
+
+impl Drop for State {
+    fn drop(self) {
+        let State {
+            tables: _,
+            mappings: _,
+            held: _,
+            places: _,
+            events: _,
+            first_in_force: _,
+            first_names: _,
+            replays: _,
+            latest,
+            redeclared: _,
+            counted: _,
+            last: _,
+            world,
+        } = self;
+        drop(latest);
+        drop(world);
+    }
 }
 
 impl State {

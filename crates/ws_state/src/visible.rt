@@ -23,15 +23,25 @@ pub(crate) fn visible_of(alloc: Global, ground: &Ground) -> Result<Visible, Memo
     };
     for (tuple, touch) in &touched.tuples {
         if touch.was != touch.is && tuple.relation < WANT {
-            let named = ground.names.tuple(alloc, tuple)?;
-            if touch.is {
-                put(&mut visible.came, &named, tuple.share()?)?;
-            } else {
-                put(&mut visible.went, &named, tuple.share()?)?;
-            }
+            visible.add(alloc, ground, tuple, touch.is)?;
         }
     }
     Ok(visible)
+}
+
+impl Visible {
+    // Adds a tuple that came, or that went.
+    fn add(
+        &mut self,
+        alloc: Global,
+        ground: &Ground,
+        tuple: &Tuple,
+        came: bool,
+    ) -> Result<(), Memory> {
+        let named = ground.names.tuple(alloc, tuple)?;
+        let seen = if came { &mut self.came } else { &mut self.went };
+        put(seen, &named, tuple.share()?)
+    }
 }
 
 /// The tuples that are seen in `new` and not in `old`, by names, in the order of their forms within.
@@ -41,19 +51,30 @@ pub(crate) fn came_between(
     new: &Visible,
 ) -> Result<TupleList, Memory> {
     let mut order = BTreeMap::new(alloc);
-    for (named, tuple) in &new.came {
-        if old.came.get(named).is_none() {
-            put(&mut order, tuple, named.share()?)?;
+    add_apart(&mut order, &new.came, &old.came)?;
+    add_apart(&mut order, &old.went, &new.went)?;
+    in_order(alloc, order)
+}
+
+// Adds the tuples that are among `ones` alone, each by its form within.
+fn add_apart(
+    order: &mut BTreeMap<Tuple, Tuple>,
+    ones: &BTreeMap<Tuple, Tuple>,
+    others: &BTreeMap<Tuple, Tuple>,
+) -> Result<(), Memory> {
+    for (named, tuple) in ones {
+        if others.get(named).is_none() {
+            put(order, tuple, named.share()?)?;
         }
     }
-    for (named, tuple) in &old.went {
-        if new.went.get(named).is_none() {
-            put(&mut order, tuple, named.share()?)?;
-        }
-    }
-    let mut came = TupleList::new(alloc);
+    Ok(())
+}
+
+// The tuples in the order of their forms within.
+fn in_order(alloc: Global, order: BTreeMap<Tuple, Tuple>) -> Result<TupleList, Memory> {
+    let mut tuples = TupleList::new(alloc);
     for (_, named) in order {
-        came.push(named)?;
+        tuples.push(named)?;
     }
-    Ok(came)
+    Ok(tuples)
 }

@@ -29,7 +29,6 @@ pub struct Answer {
 }
 
 /// A line of the log: what an accepted command did, or one part of it.
-#[derive(Drop)]
 pub enum Line {
     Update(NumberedUpdate),
     /// An answer to the question of this update.
@@ -44,6 +43,21 @@ pub enum Line {
     Redo(Vec<u32>),
     Relation(Relation),
     Mapping(Rule),
+}
+
+impl Drop for Line {
+    fn drop(self) {
+        match self {
+            Line::Update(update) => drop(update),
+            Line::Answer(_, answer) => drop(answer),
+            Line::Go(_) => {}
+            Line::Undo(numbers) => drop(numbers),
+            Line::UndoAnswers(numbers) => drop(numbers),
+            Line::Redo(numbers) => drop(numbers),
+            Line::Relation(relation) => drop(relation),
+            Line::Mapping(rule) => drop(rule),
+        }
+    }
 }
 
 /// A line with its comment, which is empty if none was given.

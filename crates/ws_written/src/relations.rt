@@ -8,8 +8,17 @@ pub struct Column {
 }
 
 /// A relation, with its columns in order.
-#[derive(Clone, Drop)]
+#[derive(Clone)]
 pub struct Relation {
     pub name: String,
     pub columns: Vec<Column>,
+}
+
+impl Drop for Relation {
+    fn drop(self) {
+        let Relation {
+            name: _,
+            columns: _,
+        } = self;
+    }
 }

@@ -16,9 +16,18 @@ pub struct Atom {
 }
 
 /// A mapping as it was declared: each match of the left atoms must extend to the right atoms. Each `_` is a variable of its own.
-#[derive(Drop)]
 pub struct Rule {
     pub name: String,
     pub left: Vec<Atom>,
     pub right: Vec<Atom>,
+}
+
+impl Drop for Rule {
+    fn drop(self) {
+        let Rule {
+            name: _,
+            left: _,
+            right: _,
+        } = self;
+    }
 }

@@ -97,8 +97,16 @@ fn takes_all(alloc: Global, line: &str) -> bool {
         mappings: &[],
     };
     match read_command(alloc, &names, line) {
-        Ok(Some(said)) => loads_all(&said.command),
-        _ => false,
+        Ok(Some(said)) => {
+            let all = loads_all(&said.command);
+            drop(said);
+            all
+        }
+        Ok(None) => false,
+        Err(refusal) => {
+            drop(refusal);
+            false
+        }
     }
 }
 

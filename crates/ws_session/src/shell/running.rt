@@ -76,9 +76,22 @@ fn begin(rt: &HostRuntime, words: &[String], work: &Words, time: &Time) -> Resul
         stays: work.command.is_none(),
     };
     let mut session = Session::new(alloc, settings)?;
+    let status = worked(rt, words, work, time, &mut session);
+    drop(session);
+    status
+}
+
+// Does what the words ask for: the one command, or the lines of standard input.
+fn worked(
+    rt: &HostRuntime,
+    words: &[String],
+    work: &Words,
+    time: &Time,
+    session: &mut Session,
+) -> Result<Status, Memory> {
     match &work.command {
-        Some(command) => one(rt, words, work, time, &mut session, command.as_str()),
-        None => run_script(rt, work, time, &mut session),
+        Some(command) => one(rt, words, work, time, session, command.as_str()),
+        None => run_script(rt, work, time, session),
     }
 }
 
