@@ -49,16 +49,30 @@ pub fn facts_of(
     if all.is_empty() {
         return Ok(loaded);
     }
-    refused(alloc, path, all)
+    refused(alloc, path, fitted.width, all)
 }
 
-fn refused(alloc: Global, path: &str, all: Vec<String>) -> Result<Loaded, Refusal> {
+// The hint for a header of one cell.
+const ONE_CELL: &str =
+    "the header is one cell; if semicolons or tabs separate the cells: --separator \";\", or tab";
+
+// If the header has one cell, another character may separate the cells.
+fn hint_for(alloc: Global, width: usize) -> Result<Option<String>, AllocError> {
+    if width == 1 {
+        return Ok(Some(String::from_str(alloc, ONE_CELL)?));
+    }
+    Ok(None)
+}
+
+// Refuses the file, whose header has `width` cells, with all its faults.
+fn refused(alloc: Global, path: &str, width: usize, all: Vec<String>) -> Result<Loaded, Refusal> {
+    let hint = hint_for(alloc, width)?;
     let mut words = Text::new(alloc);
     write!(words, "{path} has ");
     add_count(&mut words, all.len(), "fault");
     words.push_str("; nothing was loaded");
     let words = words.done()?;
-    faults(words, None, all)
+    faults(words, hint, all)
 }
 
 // All faults by line; on a line, faults of quotes come first. Both lists are in the order of the file.

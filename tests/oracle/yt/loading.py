@@ -10,6 +10,8 @@ from .naming import WANT
 from .replies import DONE, MANY, NOTHING, READ, TUPLES, WAITS, Reply, note_line, note_object, plural
 from .text import span
 
+ONE_CELL = 'the header is one cell; if semicolons or tabs separate the cells: --separator ";", or tab'
+
 
 class Loading:
     """Loads rows."""
@@ -121,7 +123,8 @@ class Loading:
             plan.append((line, i, (r, tuple(vs))))
         if faults:
             faults.sort(key=lambda f: f[0])
-            raise T.Fault("%s has %s; nothing was loaded" % (path, plural(len(faults), "fault")), None, None, 3,
+            raise T.Fault("%s has %s; nothing was loaded" % (path, plural(len(faults), "fault")), None,
+                          ONE_CELL if len(header) == 1 else None, 3,
                           ["line %d: %s" % f for f in faults])
         if len(s.facts) + len(plan) > TUPLES:
             raise T.Fault("there would be more than %d tuples" % TUPLES, None, None, 3)
