@@ -92,7 +92,7 @@ op_meets n B as' D seq op t P cs u plain e =
     let done : P.phase ≡ Ended EndedDone = op_is_done s D seq op t P cs u e in
     let holds : AllHold (rules_of as') (apply D (shown (whole_chase (rules_of as') B) P)) =
     (hold_after (rules_of as') B D record { number = seq; attempt = 0; operation = op; answers = cs } P
-    (op_has_steps s D B seq op (begun_with op t) P cs u e) (ops_are_serial s D seq op t P cs u e)).done
+    (op_has_steps s D B seq op (begun_with D op t) P cs u e) (ops_are_serial s D seq op t P cs u e)).done
     done (none_later seq 0 (rules_of as') (apply D P.own) plain) in
     met_all 0 (rules_of as') (apply D P.own) plain
     (subst (λ ws. AllHold (rules_of as') (apply D ws)) (shown_all (rules_of as') B P done) holds)

@@ -116,7 +116,7 @@ module _ (s : Setting) (ps : Places) where
   KeptBy t = KeepsPlaces ps t.places
 
   op_keeps : (op : Operation) (c : Course) → Kept c → HoldsAt Kept KeptBy (take_op s op c)
-  op_keeps op c h = by (run_op s c.facts (suc c.last) op c.thread) (run_keeps s c.facts s.steps (begun_attempt (suc c.last) 0 op) [] (begun_with op c.thread))
+  op_keeps op c h = by (run_op s c.facts (suc c.last) op c.thread) (run_keeps s c.facts s.steps (begun_attempt (suc c.last) 0 op) [] (begun_with c.facts op c.thread))
     where
       by : (r : Rested) → KeepsPlaces c.thread.places (thread_in r).places → HoldsAt Kept KeptBy (after_op c op r)
       by (Rests P cs t) k = both ps c.thread.places t.places h k

@@ -219,7 +219,7 @@ goes_on s D (suc k) P cs t Q ds u n e =
 -- An op that comes to rest has ended done.
 pub op_is_done : (s : Setting) (D : List Fact) (seq : ℕ) (op : Operation) (t : Thread) (P : Attempt) (cs : List Choice) (u : Thread)
     → run_op s D seq op t ≡ Rests P cs u → P.phase ≡ Ended Done
-op_is_done s D seq op t P cs u e = (goes_on s D s.steps (begun seq 0 op) [] (begun_with op t) P cs u refl e).done
+op_is_done s D seq op t P cs u e = (goes_on s D s.steps (begun seq 0 op) [] (begun_with D op t) P cs u refl e).done
 
 -- It made a step.
 pub op_has_steps : (s : Setting) (D : List Fact) (k seq : ℕ) (op : Operation) (t : Thread) (P : Attempt) (cs : List Choice) (u : Thread)
@@ -228,4 +228,4 @@ op_has_steps s D zero seq op t P cs u e = absurd (no_halt _ _ P cs u e)
 op_has_steps s D (suc k) seq op t P cs u e = omega arith
 
 pub ops_are_serial : OpsAreSerial
-ops_are_serial s D seq op t P cs u e = (goes_on s D s.steps (begun seq 0 op) [] (begun_with op t) P cs u refl e).ends
+ops_are_serial s D seq op t P cs u e = (goes_on s D s.steps (begun seq 0 op) [] (begun_with D op t) P cs u refl e).ends

@@ -11,6 +11,7 @@ use Rattle.def_chase.specs.Violations.{Scope}
 use Rattle.def_chase.specs.Queries.{value}
 use Rattle.def_chase.specs.Updates.{Operation, Adds, Removes, Replaces, Enacts, Choice, Expand, Unify, Drop}
 use Rattle.def_steps.specs.Attempts.{Outcome, Done, Spent, Refused, Repair, Question, Positive, Negative, Phase, Start, Look, Generate, Asked as AskedAt, Ended, Attempt, begun}
+use Rattle.def_provenance.specs.Puts.{stands_for}
 use Rattle.def_steps.specs.Rewriting.{replacing}
 use Rattle.def_steps.specs.Questions.{candidate}
 use Rattle.def_steps.specs.Steps.{Move, step, moved}
@@ -207,7 +208,7 @@ onward s D go P cs t = go (next s D P None) cs (drawn s P (move_by s D P None) t
 abbrev pub at_end : Attempt → List Choice → Thread → Outcome → Rested
 at_end P cs t Done = Rests P cs t
 at_end P cs t Spent = Halts TooLong t
-at_end P cs t (Refused n) = Halts (NotThere (name_of t.names n)) t
+at_end P cs t (Refused n) = Halts (NotThere (name_of t.names record { update = n.update; attempt = 0; place = n.place })) t
 
 abbrev pub by_phase : Setting → List Fact → (Attempt → List Choice → Thread → Rested) → Attempt → List Choice → Thread → Phase → Rested
 by_phase s D go P cs t Start = onward s D go P cs t
@@ -221,24 +222,24 @@ abbrev pub run : Setting → List Fact → ℕ → Attempt → List Choice → T
 run s D zero P cs t = by_phase s D (λ Q ds u. Halts TooLong u) P cs t P.phase
 run s D (suc k) P cs t = by_phase s D (λ Q ds u. run s D k Q ds u) P cs t P.phase
 
--- The change that an operation itself makes to values: a replacement replaces its unknown.
-abbrev pub moved_first : Operation → Datum → Datum
-moved_first (Adds t) d = d
-moved_first (Removes t) d = d
-moved_first (Replaces n v) d = replacing (Unknown n) v d
-moved_first (Enacts n) d = d
+-- The change that an operation itself makes to values over D: a replacement replaces its unknown, both as they stand in D.
+abbrev pub moved_first : List Fact → Operation → Datum → Datum
+moved_first D (Adds t) d = d
+moved_first D (Removes t) d = d
+moved_first D (Replaces n v) d = replacing (stands_for D (Unknown n)) (stands_for D v) d
+moved_first D (Enacts n) d = d
 
-abbrev pub begun_with : Operation → Thread → Thread
-begun_with op t =
+abbrev pub begun_with : List Fact → Operation → Thread → Thread
+begun_with D op t =
     record {
       names = t.names;
       places = t.places;
       given = t.given;
       answers = t.answers;
       taken = t.taken;
-      moves = λ d. moved_first op (t.moves d);
+      moves = λ d. moved_first D op (t.moves d);
     }
 
 -- The operation taken whole over D, as op number seq.
 abbrev pub run_op : Setting → List Fact → ℕ → Operation → Thread → Rested
-run_op s D seq op t = run s D s.steps (begun seq 0 op) [] (begun_with op t)
+run_op s D seq op t = run s D s.steps (begun seq 0 op) [] (begun_with D op t)

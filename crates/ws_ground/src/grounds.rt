@@ -1,7 +1,8 @@
 //! What a run is over: the tuples, the names of their nulls, and what was written.
 ghost use Rattle.std.specs.Prelude.{◌≡◌, ◌≤◌, map, length, drop, take, OnOk, IfSome, IfNone};
-ghost use Rattle.base_types.specs.Meanings.{change_of};
-ghost use Rattle.def_chase.specs.Repository.{change};
+ghost use Rattle.base_types.specs.Contents.{changes_of};
+ghost use Rattle.base_types.specs.Meanings.{change_of, fact_of};
+ghost use Rattle.def_chase.specs.Repository.{Delete, Insert, apply, change};
 ghost use Rattle.ws_ground.specs.Trails.{HasMade, IsPopped, HasGrown, IsBackTo, before, undoing};
 
 use base_types::{Facts, Memory, Tuple, Write, WriteList};
@@ -29,7 +30,11 @@ pub struct Mark {
 
 impl Ground {
     /// A ground with these tuples and names, before any op.
-    pub fn new(alloc: Global, facts: IndexedFacts, names: Names) -> Ground {
+    pub fn new(alloc: Global, facts: IndexedFacts, names: Names) -> Ground
+        ensures facts { result.facts ≡ facts }
+        ensures names { result.names ≡ names }
+        ensures last { result.last ≡ 0 }
+    {
         Ground {
             facts,
             names,
@@ -41,6 +46,8 @@ impl Ground {
     /// The mark of the present moment.
     pub fn mark(&self) -> Mark
         ensures trail { result.trail ≡ length self.now.trail.items }
+        ensures names { result.names ≡ length self.now.names }
+        ensures last { result.last ≡ self.now.last }
     {
         Mark {
             last: self.last,
@@ -52,6 +59,8 @@ impl Ground {
     /// Takes back what was done since the mark.
     pub fn back_to(&mut self, mark: Mark) -> Result<(), Memory>
         ensures back { OnOk result (IsBackTo mark.trail self.old self.new) }
+        ensures names { OnOk result (self.new.names ≡ take mark.names self.old.names) }
+        ensures last { OnOk result (self.new.last ≡ mark.last) }
     {
         take_back(&mut self.facts, &mut self.trail, mark.trail)?;
         self.names.keep(mark.names);
@@ -62,6 +71,9 @@ impl Ground {
     /// Makes the writes in turn, and adds each that changes something to the trail. After a refusal, some of them may be made.
     pub fn make(&mut self, writes: WriteList) -> Result<(), Memory>
         ensures grown { HasGrown self.old self.new }
+        ensures made { OnOk result (self.new.facts ≡ apply self.old.facts (changes_of writes)) }
+        ensures names { self.new.names ≡ self.old.names }
+        ensures last { self.new.last ≡ self.old.last }
     {
         make_all(&mut self.facts, &mut self.trail, writes)
     }
@@ -118,6 +130,7 @@ fn make_all(
     writes: WriteList,
 ) -> Result<(), Memory>
     ensures made { HasMade trail.old.items facts.old trail.new.items facts.new }
+    ensures all { OnOk result (facts.new ≡ apply facts.old (changes_of writes)) }
 {
     'writes: for write in writes.into_vec() {
         make_one(facts, trail, write)?;
@@ -127,6 +140,7 @@ fn make_all(
 
 fn make_one(facts: &mut IndexedFacts, trail: &mut WriteList, write: Write) -> Result<(), Memory>
     ensures made { HasMade trail.old.items facts.old trail.new.items facts.new }
+    ensures written { OnOk result (facts.new ≡ change facts.old (change_of write)) }
 {
     match write {
         Write::Insert(tuple) => insert(facts, trail, tuple),
@@ -137,6 +151,7 @@ fn make_one(facts: &mut IndexedFacts, trail: &mut WriteList, write: Write) -> Re
 #[tactic(auto, using(crate::proofs::Trailing::none_made, crate::proofs::Trailing::came, crate::proofs::Trailing::came_not))]
 fn insert(facts: &mut IndexedFacts, trail: &mut WriteList, tuple: Tuple) -> Result<(), Memory>
     ensures made { HasMade trail.old.items facts.old trail.new.items facts.new }
+    ensures written { OnOk result (facts.new ≡ change facts.old (Insert (fact_of tuple))) }
 {
     // The call proves that the set is in order.
     facts.is_in_order();
@@ -151,6 +166,7 @@ fn insert(facts: &mut IndexedFacts, trail: &mut WriteList, tuple: Tuple) -> Resu
 #[tactic(auto, using(crate::proofs::Trailing::none_made, crate::proofs::Trailing::went, crate::proofs::Trailing::went_not))]
 fn remove(facts: &mut IndexedFacts, trail: &mut WriteList, tuple: Tuple) -> Result<(), Memory>
     ensures made { HasMade trail.old.items facts.old trail.new.items facts.new }
+    ensures written { OnOk result (facts.new ≡ change facts.old (Delete (fact_of tuple))) }
 {
     facts.is_in_order();
     trail.reserve(1)?;

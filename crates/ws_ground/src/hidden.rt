@@ -1,4 +1,13 @@
 //! The hidden relations and mappings.
+ghost use Rattle.std.specs.Prelude.{◌≡◌, map, pos, IfOk};
+ghost use Rattle.base_types.specs.Meanings.{datum_of, fact_of};
+ghost use Rattle.base_types.specs.Contents.{data_of};
+ghost use Rattle.def_chase.specs.Values.{Number};
+ghost use Rattle.def_workspace.specs.Hidden.{found_as as found_fact, or_zero as or_else, to_fix as fix_fact, wanted as wanted_fact};
+ghost use Rattle.def_workspace.specs.Ops.{new_among, new_in};
+ghost use Rattle.def_workspace.specs.Places.{greater as greater_of};
+ghost use Rattle.ws_lines.specs.Meanings.{deed_of, spelled_fact_of, spelled_of};
+ghost use Rattle.ws_ground.specs.News.{new_at, news};
 
 use base_types::{
     Atom, AtomList, Mapping, Memory, Name, NameList, Term, TermRow, TryCopy, Tuple, Value,
@@ -17,14 +26,18 @@ pub const UNKNOWN: u16 = 101;
 pub const FIX: u16 = 102;
 
 /// The tuple that asks for the new unknown of this number.
-pub fn wanted(alloc: Global, number: u32) -> Result<Tuple, Memory> {
+pub fn wanted(alloc: Global, number: u32) -> Result<Tuple, Memory>
+    ensures tuple { IfOk result (λ tuple. fact_of tuple ≡ wanted_fact number) }
+{
     let mut values = ValueList::new(alloc);
     values.push(Value::Int(i64::from(number)))?;
     Tuple::new(alloc, WANT, values)
 }
 
 /// The tuple that gives the new unknown of this number this value.
-pub fn found_as(alloc: Global, number: u32, value: Value) -> Result<Tuple, Memory> {
+pub fn found_as(alloc: Global, number: u32, value: Value) -> Result<Tuple, Memory>
+    ensures tuple { IfOk result (λ tuple. fact_of tuple ≡ found_fact number (datum_of value)) }
+{
     let mut values = ValueList::new(alloc);
     values.push(Value::Int(i64::from(number)))?;
     values.push(value)?;
@@ -32,44 +45,77 @@ pub fn found_as(alloc: Global, number: u32, value: Value) -> Result<Tuple, Memor
 }
 
 /// The tuple that asks for the repair of a mapping for these values.
-pub fn to_fix(alloc: Global, values: ValueList) -> Result<Tuple, Memory> {
-    let mut values = values;
-    if values.is_empty() {
-        values.push(Value::Int(0))?;
-    }
+pub fn to_fix(alloc: Global, values: ValueList) -> Result<Tuple, Memory>
+    ensures tuple { IfOk result (λ tuple. fact_of tuple ≡ fix_fact (data_of values)) }
+{
+    let values = or_zero(values)?;
     Tuple::new(alloc, FIX, values)
 }
 
+// The values, or the number 0 if there are none.
+#[tactic(auto, using(crate::proofs::Counting::some_values))]
+fn or_zero(values: ValueList) -> Result<ValueList, Memory>
+    ensures values { IfOk result (λ all. data_of all ≡
+        or_else (Number (pos 0)) (data_of values)) }
+{
+    if !values.is_empty() {
+        return Ok(values);
+    }
+    let mut values = values;
+    values.push(Value::Int(0))?;
+    Ok(values)
+}
+
 /// The number of new unknowns in the update.
-pub fn news_of(deed: &Deed) -> u32 {
+#[tactic(auto, using(crate::proofs::Counting::one_tuple))]
+pub fn news_of(deed: &Deed) -> u32
+    ensures news { result ≡ news (deed_of deed.now) }
+{
     match deed {
         Deed::Insert(tuples) => news_among(tuples.as_slice()),
-        Deed::Swap(_, tuple) => news_in(tuple),
-        _ => 0,
+        Deed::Delete(_) => 0,
+        Deed::Fill(_, _) => 0,
+        Deed::Swap(_, tuple) => news_in(tuple.values.as_slice()),
+        Deed::Fix(_, _) => 0,
+        Deed::Force(_) => 0,
+        Deed::Drop(_) => 0,
     }
 }
 
-fn news_among(tuples: &[SpelledTuple]) -> u32 {
+fn news_among(tuples: &[SpelledTuple]) -> u32
+    ensures news { result ≡ new_among (map spelled_fact_of tuples.now) }
+{
     let mut most = 0;
     for tuple in tuples {
-        let news = news_in(tuple);
-        if most < news {
-            most = news;
-        }
+        most = greater(most, news_in(tuple.values.as_slice()));
     }
     most
 }
 
-fn news_in(tuple: &SpelledTuple) -> u32 {
+fn news_in(values: &[Spelled]) -> u32
+    ensures news { result ≡ new_in (map spelled_of values.now) }
+{
     let mut most = 0;
-    for value in tuple.values.as_slice() {
-        if let Spelled::New(number) = value {
-            if most < *number {
-                most = *number;
-            }
-        }
+    for value in values {
+        most = greater(most, news_at(value));
     }
     most
+}
+
+// The number of the new unknown; 0 for a known value.
+fn news_at(value: &Spelled) -> u32
+    ensures news { result ≡ new_at (spelled_of value.now) }
+{
+    match value {
+        Spelled::Known(_) => 0,
+        Spelled::New(number) => *number,
+    }
+}
+
+fn greater(one: u32, other: u32) -> u32
+    ensures greater { result ≡ greater_of one other }
+{
+    if one < other { other } else { one }
 }
 
 /// The hidden mapping that draws new unknowns, `_new: _want(n) -> _unknown(n, u)`.

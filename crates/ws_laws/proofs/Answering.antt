@@ -218,7 +218,7 @@ module _ (A : List Given) where
   op_alike : (s : Setting) (op : Operation) (c : Course) → GoesOn c (take_op s op c) (λ B. take_op s op (with_thread (other B c.thread) c))
   op_alike s op c =
       by (run_op s c.facts (suc c.last) op c.thread) (λ B. run_op s c.facts (suc c.last) op (other B c.thread))
-      (run_alike s c.facts s.steps (begun_attempt (suc c.last) 0 op) [] (begun_with op c.thread))
+      (run_alike s c.facts s.steps (begun_attempt (suc c.last) 0 op) [] (begun_with c.facts op c.thread))
     where
       by : (r : Rested) (f : List Given → Rested) → Comes c.thread r f → GoesOn c (after_op c op r) (λ B. after_op (with_thread (other B c.thread) c) op (f B))
       by (Rests P cs t) f a = (a.0, a.1, λ h B w. ap (after_op (with_thread (other B c.thread) c) op) (a.2 h B w))

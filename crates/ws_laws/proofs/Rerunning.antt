@@ -128,7 +128,7 @@ Goes_on c g h =
 op_again : (s : Setting) (op : Operation) (c : Course) → Goes_on c (take_op s op c) (λ U. take_op s op (with_thread (table_in U c.thread) c))
 op_again s op c =
     by (run_op s c.facts (suc c.last) op c.thread) (λ U. run_op s c.facts (suc c.last) op (table_in U c.thread))
-    (run_again s c.facts s.steps (begun_attempt (suc c.last) 0 op) [] (begun_with op c.thread))
+    (run_again s c.facts s.steps (begun_attempt (suc c.last) 0 op) [] (begun_with c.facts op c.thread))
   where
     by : (r : Rested) (f : Places → Rested) → Comes c.thread r f → Goes_on c (after_op c op r) (λ U. after_op (with_thread (table_in U c.thread) c) op (f U))
     by (Rests P cs t) f a = (a.0, a.1, λ h U w. ap (after_op (with_thread (table_in U c.thread) c) op) (a.2 h U w))

@@ -1,6 +1,5 @@
 -- The greatest place of a table.
-use Rattle.std.proofs.Common.{◌≡◌, ◌∙◌, ap, refl, sym, ℕ, zero, suc, ◌+◌, ◌<◌, ◌≤◌, nat_lt, Bool, true, false, List, [], ◌∷◌, map, length, drop, get_or, ltb-true, arith}
-use Rattle.std.specs.Prelude.{if◌then◌else◌}
+use Rattle.std.proofs.Common.{◌≡◌, ◌∙◌, ap, sym, ℕ, ◌+◌, ◌<◌, ◌≤◌, List, ◌∷◌, map, length, drop, get_or, ltb-true, arith}
 use Rattle.std.proofs.lemmas.List.{drop_more, drop_all}
 use Rattle.def_workspace.specs.Places.{greater, greatest}
 use Rattle.ws_names.specs.Meanings.{place_of}

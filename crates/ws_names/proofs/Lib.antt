@@ -1,2 +1,4 @@
 pub mod Greatest
 pub mod Images
+pub mod Indexed
+pub mod Kept

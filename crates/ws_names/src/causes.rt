@@ -1,15 +1,16 @@
-//! What draws an unknown: its cause.
+//! What draws an unknown, and whether two causes or two questions are the same.
 ghost use Rattle.std.specs.Prelude.{◌≡◌, map, IfOk};
 ghost use Rattle.std.specs.Cmp.Lexicographic.{pointwise};
 ghost use Rattle.def_chase.specs.Values.{same_fact};
 ghost use Rattle.base_types.specs.Meanings.{fact_of};
-ghost use Rattle.ws_lines.specs.Meanings.{source_of};
+ghost use Rattle.ws_lines.specs.Meanings.{asked_of, source_of};
 ghost use Rattle.def_workspace.specs.Places.{Cause as CauseMeant, same_cause, same_source};
+ghost use Rattle.def_workspace.specs.Runs.{same_asked};
 ghost use Rattle.ws_names.specs.Meanings.{cause_of};
 
 use base_types::{Memory, TryCopy, TupleList};
 use std::alloc::Global;
-use ws_lines::Source;
+use ws_lines::{Asked, Source};
 
 /// The cause of an unknown: a mapping (`source`), one of its variables, and the image of its left side, by names.
 #[derive(Drop)]
@@ -29,6 +30,15 @@ impl Cause {
         let is_same_image = are_same(&self.image, &other.image);
         is_same_source && is_same_variable && is_same_image
     }
+}
+
+/// Whether both are the same question.
+pub fn is_same_question(one: &Asked, other: &Asked) -> bool
+    ensures same { result ≡ same_asked (asked_of one.now) (asked_of other.now) }
+{
+    let is_same_source = is_same(one.source, other.source);
+    let are_same_tuples = are_same(&one.tuples, &other.tuples);
+    is_same_source && are_same_tuples
 }
 
 fn is_same(one: Source, other: Source) -> bool

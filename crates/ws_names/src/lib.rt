@@ -2,9 +2,10 @@
 #![tactic(auto)]
 
 mod causes;
+mod firsts;
 mod names;
 mod places;
 
-pub use crate::causes::Cause;
-pub use crate::names::Names;
+pub use crate::causes::{Cause, is_same_question};
+pub use crate::names::{Names, Pair};
 pub use crate::places::{Place, Places, give};

@@ -1,1 +1,10 @@
 pub mod Onward
+pub mod Followed
+pub mod Found
+pub mod Sources
+pub mod Called
+pub mod Naming
+pub mod Moving
+pub mod Steps
+pub mod Answered
+pub mod Generated

@@ -1,5 +1,5 @@
 //! The steps of an op, one after the other, until it ends or halts.
-ghost use Rattle.std.specs.Prelude.{◌≡◌, ◌<◌, [], true, None, OnOk};
+ghost use Rattle.std.specs.Prelude.{◌≡◌, ◌+◌, ◌<◌, [], true, None, OnOk};
 ghost use Rattle.def_chase.specs.Repository.{IsRepository};
 ghost use Rattle.run_step.specs.Turns.{view_of};
 
@@ -52,8 +52,7 @@ fn go_with(
         program.old.attempt }
     requires sorted { IsRepository view.old.below }
 {
-    let looks = over.run.setting.steps.saturating_add(1);
-    'steps: for _ in 0..looks {
+    'steps: for _ in 0..over.run.setting.budget.steps() {
         if let Want::Ended(outcome) = program.wants() {
             return ended(alloc, names, outcome);
         }
@@ -118,22 +117,25 @@ fn offer(
     let given = over.run.answers.get(thread.taken as usize);
     match fitting(alloc, over.run.setting, names, question, given)? {
         Some(choice) => {
+            let Some(taken) = thread.taken.checked_add(1) else {
+                return Err(Memory);
+            };
             choices.push(choice)?;
-            thread.taken = thread.taken.saturating_add(1);
+            thread.taken = taken;
             Ok(None)
         }
-        None => {
-            let asked = told(alloc, over, names, program, question, thread.taken)?;
-            Ok(Some(Reason::Asks(asked)))
-        }
+        None => match told(alloc, over, names, program, question, thread.taken)? {
+            Some(asked) => Ok(Some(Reason::Asks(asked))),
+            None => Ok(Some(too_long(alloc))),
+        },
     }
 }
 
-// Whether the op may make another step.
+// Whether the op may make another step, one less than its budget.
 fn has_steps_left(setting: &Setting<'_>, program: &Attempt) -> bool
-    ensures left { result ≡ true → program.now.attempt.steps < setting.now.budget }
+    ensures left { result ≡ true → program.now.attempt.steps + 1 < setting.now.budget }
 {
-    setting.budget.allows(program.steps()) && program.steps() < setting.steps
+    setting.budget.allows(program.steps() + 1)
 }
 
 // Halts the run unless the program ended done.

@@ -1,4 +1,6 @@
 //! Why an update does not stand.
+ghost use Rattle.std.specs.Prelude.{◌≡◌};
+ghost use Rattle.ws_run.specs.declared.halts.Halt.TheVariants.{Memory as WantOfMemory};
 
 use base_types::{List, Memory, Null, TupleList, WriteList};
 use ws_lines::{Asked, Source};
@@ -45,12 +47,16 @@ pub enum Halt {
 }
 
 impl From<Memory> for Halt {
+    ghost from_gives = { λ _ halt. halt ≡ WantOfMemory };
+
     fn from(_memory: Memory) -> Halt {
         Halt::Memory
     }
 }
 
 impl<T: Drop> From<(T, Memory)> for Halt {
+    ghost from_gives = { λ _ halt. halt ≡ WantOfMemory };
+
     fn from(_refused: (T, Memory)) -> Halt {
         Halt::Memory
     }

@@ -109,7 +109,6 @@ fn run_ops(
     let in_force = InForce::of(alloc, mappings)?;
     let setting = Setting {
         number: turn.update.number,
-        steps: turn.update.steps,
         budget: budget_for(turn.update.steps),
         in_force: &in_force,
         sources: &active.sources,
