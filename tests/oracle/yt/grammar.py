@@ -320,9 +320,10 @@ def body(c, verb, schema, mappings):
 
 def lines_of(line):
     """The number of the next lines of the input that belong to this one, even if it is refused: `load .. --lines N`."""
-    if not re.match(r"[ \t\r]*(try[ \t\r]+)?load(?![A-Za-z0-9_])", line):
+    load = re.match(r"[ \t\r]*(try[ \t\r]+)?load(?![A-Za-z0-9_])[ \t\r]*([A-Za-z_][A-Za-z0-9_]*)?", line)
+    if not load:
         return 0
-    bare = re.split(r"[ \t\r]#", re.sub(r'"(\\.|[^"\\])*"', '""', line))[0]
+    bare = re.split(r"[ \t\r]#", re.sub(r'"(\\.|[^"\\])*"', '""', " " + line[load.end():]))[0]
     m = re.search(r"[ \t\r]--lines[ \t\r]*([0-9]+)", bare)
     return int(m.group(1)) if m else 0
 

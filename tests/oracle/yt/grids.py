@@ -5,9 +5,16 @@ import unicodedata
 from .printing import control, quoted, show_value
 
 
+# Characters that are not assigned are narrow, but for those that ideographs will take.
+WIDE = ((0x3400, 0x4DBF), (0x4E00, 0x9FFF), (0xF900, 0xFAFF), (0x20000, 0x2FFFD), (0x30000, 0x3FFFD))
+
+
 def width(s):
     n = 0
     for ch in s:
+        if unicodedata.category(ch) == "Cn":
+            n += 2 if any(low <= ord(ch) <= high for low, high in WIDE) else 1
+            continue
         if unicodedata.combining(ch) or unicodedata.category(ch) in ("Cf", "Mn", "Me"):
             continue
         n += 2 if unicodedata.east_asian_width(ch) in "WF" else 1
